@@ -1,0 +1,66 @@
+-- The numbers that the kiosk sees, each named once.
+use Prim.Native.Nat.{ℕ}
+
+-- "A verdict is five numbers: answer, reference index, presented index, start, length." The answers:
+abbrev pub match : ℕ
+match = 0
+
+abbrev pub mismatch : ℕ
+mismatch = 1
+
+-- an SRVName breaks the constraints
+abbrev pub constraintsBroken : ℕ
+constraintsBroken = 2
+
+abbrev pub sanUnreadable : ℕ
+sanUnreadable = 3
+
+abbrev pub subjectUnreadable : ℕ
+subjectUnreadable = 4
+
+abbrev pub constraintsUnreadable : ℕ
+constraintsUnreadable = 5
+
+abbrev pub recordsUnreadable : ℕ
+recordsUnreadable = 6
+
+abbrev pub inputTooLong : ℕ
+inputTooLong = 7
+
+-- the 0 of the listing and of the record reader
+abbrev pub accepted : ℕ
+accepted = 0
+
+-- listing only
+abbrev pub tableTooShort : ℕ
+tableTooShort = 8
+
+-- "Longest inputs, in bytes: SAN 16,384; subject 4,096; constraints 16,384; references 5,120. One byte more is answer 7."
+abbrev pub sanLimit : ℕ
+sanLimit = 16384
+
+abbrev pub subjectLimit : ℕ
+subjectLimit = 4096
+
+abbrev pub constraintsLimit : ℕ
+constraintsLimit = 16384
+
+abbrev pub recordsLimit : ℕ
+recordsLimit = 5120
+
+-- "Records of one fixed size, 320 bytes"
+abbrev pub recordSize : ℕ
+recordSize = 320
+
+-- "Byte 0 kind: 1 DNS, 2 SRV, 3 URI, 4 CN."
+abbrev pub dnsKind : ℕ
+dnsKind = 1
+
+abbrev pub srvKind : ℕ
+srvKind = 2
+
+abbrev pub uriKind : ℕ
+uriKind = 3
+
+abbrev pub cnKind : ℕ
+cnKind = 4

@@ -1,0 +1,105 @@
+// The types that all crates share: the numbers that a caller sees, and where a witness lies.
+// What is right is said in specs/, in document 01's words; this file declares no function. Its constants are the numbers of
+// specs/Numbers.antt, for code: a proof of equality with a definition fails where the two differ.
+
+// The answers.
+pub const MATCH: usize = 0;
+
+pub const MISMATCH: usize = 1;
+
+pub const CONSTRAINTS_BROKEN: usize = 2;
+
+pub const SAN_UNREADABLE: usize = 3;
+
+pub const SUBJECT_UNREADABLE: usize = 4;
+
+pub const CONSTRAINTS_UNREADABLE: usize = 5;
+
+pub const RECORDS_UNREADABLE: usize = 6;
+
+pub const INPUT_TOO_LONG: usize = 7;
+
+pub const ACCEPTED: usize = 0;
+
+pub const TABLE_TOO_SHORT: usize = 8;
+
+// The longest inputs, in bytes.
+pub const SAN_LIMIT: usize = 16384;
+
+pub const SUBJECT_LIMIT: usize = 4096;
+
+pub const CONSTRAINTS_LIMIT: usize = 16384;
+
+pub const RECORDS_LIMIT: usize = 5120;
+
+// The size of a reference record, and the kinds of references.
+pub const RECORD_SIZE: usize = 320;
+
+pub const DNS: u8 = 1;
+
+pub const SRV: u8 = 2;
+
+pub const URI: u8 = 3;
+
+pub const CN: u8 = 4;
+
+// A row of a listing: (kind, start, length, group).
+#[repr(C)]
+pub struct Row {
+    pub kind: usize,
+    pub start: usize,
+    pub length: usize,
+    pub group: usize,
+}
+
+// What a listing answers: the answer, and the count or the count needed.
+#[repr(C)]
+pub struct Listed {
+    pub answer: usize,
+    pub count: usize,
+}
+
+// A verdict's five numbers.
+pub struct Verdict {
+    pub answer: usize,
+    pub reference: usize,
+    pub presented: usize,
+    pub start: usize,
+    pub length: usize,
+}
+
+// What the record reader shows: the answer, the record's kind, and the lengths of its service and its domain.
+pub struct Shown {
+    pub answer: usize,
+    pub kind: usize,
+    pub service: usize,
+    pub domain: usize,
+}
+
+// A part of a certificate string.
+pub struct Place {
+    pub start: usize,
+    pub length: usize,
+}
+
+// The first pair that matches: the reference's index and the presented identifier's, the places of the identifier's DER
+// element and of its text, and whether they lie in the subject, as a CN does, or in the SAN.
+pub struct Witness {
+    pub reference: usize,
+    pub presented: usize,
+    pub element: Place,
+    pub text: Place,
+    pub subject: bool,
+}
+
+// How a verdict ends. The numbers of each case are `numbersOf` of specs/Verdict.antt.
+pub enum Outcome {
+    // Answers 7, 6, 3, 4 and 5: an input is too long or unreadable.
+    Refused(usize),
+    // Answer 2: the index of the first SRVName that breaks the constraints.
+    Broken(usize),
+    // Answer 0.
+    Matched(Witness),
+    // Answer 1.
+    Mismatched,
+}
