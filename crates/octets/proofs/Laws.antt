@@ -1,0 +1,59 @@
+-- The laws that the functions' proofs search.
+use Prim.Native.Nat.{ℕ, _+_, _<_, _≤_}
+use mathlib.Core.Path.{_≡_}
+use mathlib.Core.List.{List}
+use lib.ListN.{length, getD}
+use borrow.Author.Tests.{eq-eqb, ne-eqb}
+use Rattle.rules.specs.Bytes.{before}
+use Rattle.rules.specs.Names.{is}
+use Rattle.octets.proofs.Classes
+use Rattle.octets.proofs.Compare
+use Rattle.octets.proofs.Cut
+use Rattle.octets.proofs.Parts
+
+-- ---- find, by the comparison that it makes
+
+pub find-begin : (s : List ℕ) (b : ℕ) → Cut.Cutting (is b) s 0
+find-begin s b = Cut.cut-begin _ s
+
+module _ (s : List ℕ) (b i : ℕ) (inv : Cut.Cutting (is b) s i) where
+  pub find-here : i < length s → getD s i 0 ≡ b → i ≡ length (before (is b) s)
+  find-here h e = Cut.cut-here _ s i inv h (eq-eqb _ _ e)
+
+  pub find-next : i < length s → (getD s i 0 ≡ b → ⊥) → Cut.Cutting (is b) s (i + 1)
+  find-next h e = Cut.cut-next _ s i inv h (ne-eqb _ _ e)
+
+  pub find-end : length s ≤ i → i ≡ length (before (is b) s)
+  find-end h = Cut.cut-end _ s i inv h
+
+pub ruleset laws = (
+  Classes.lower-under,
+  Classes.lower-over,
+  Classes.lower-capital,
+  Classes.letter-small,
+  Classes.letter-under,
+  Classes.letter-capital,
+  Classes.digit-under,
+  Classes.digit-from,
+  Classes.ldh-letter,
+  Classes.ldh-digit,
+  Classes.ldh-hyphen,
+  Classes.scheme-ldh,
+  Classes.scheme-plus,
+  Classes.scheme-dot,
+  Compare.same-lengths,
+  Compare.same-begin,
+  Compare.same-next,
+  Compare.same-differ,
+  Compare.same-end,
+  Compare.text-lengths,
+  Compare.text-begin,
+  Compare.text-next,
+  Compare.text-differ,
+  Compare.text-end,
+  find-begin,
+  find-here,
+  find-next,
+  find-end,
+  Parts.rest-is,
+)

@@ -1,0 +1,8 @@
+pub mod Cases
+pub mod Classes
+pub mod Parts
+pub mod Every
+pub mod Cut
+pub mod Compare
+pub mod Place
+mod Laws

@@ -1,0 +1,139 @@
+// Bytes of a text: the classes of bytes, the comparison of texts with and without case, and the place of a byte.
+ghost use mathlib.Core.Path.{_≡_};
+ghost use Prim.Native.Nat.{_-_, _<_, _≤_};
+ghost use lib.ListN.{length, drop};
+ghost use Rattle.rules.specs.Bytes.{same, before};
+ghost use Rattle.rules.specs.Names.{is, letter, digit, letterDigitHyphen, schemeByte, sameText};
+ghost use Rattle.rules.specs.Names as names;
+
+// A byte as a number, with the bound that a byte has.
+pub fn wide(x: u8) -> usize
+    ensures { λ r. ⌜ (r ≡ x) × (r < 256) ⌝ }
+{
+    x as usize
+}
+
+// "Letters compare without case": A to Z become a to z, every other byte stays.
+pub fn lower(b: u8) -> u8
+    ensures { λ r. ⌜ r ≡ names.lower b ⌝ }
+{
+    if b < 0x41 {
+        return b;
+    }
+    if 0x5A < b {
+        return b;
+    }
+    b + 32
+}
+
+// A to Z or a to z.
+pub fn is_letter(b: u8) -> bool
+    ensures { λ r. ⌜ r ≡ letter b ⌝ }
+{
+    if 0x61 <= b {
+        return b <= 0x7A;
+    }
+    if b < 0x41 {
+        return false;
+    }
+    b <= 0x5A
+}
+
+// 0 to 9.
+pub fn is_digit(b: u8) -> bool
+    ensures { λ r. ⌜ r ≡ digit b ⌝ }
+{
+    if b < 0x30 {
+        return false;
+    }
+    b <= 0x39
+}
+
+// "A label has letters, digits and hyphens".
+pub fn is_ldh(b: u8) -> bool
+    ensures { λ r. ⌜ r ≡ letterDigitHyphen b ⌝ }
+{
+    let letter = is_letter(b);
+    if letter {
+        return true;
+    }
+    let digit = is_digit(b);
+    if digit {
+        return true;
+    }
+    b == 0x2D
+}
+
+// "letters, digits, "+", "-", ".""
+pub fn is_scheme_byte(b: u8) -> bool
+    ensures { λ r. ⌜ r ≡ schemeByte b ⌝ }
+{
+    let ldh = is_ldh(b);
+    if ldh {
+        return true;
+    }
+    if b == 0x2B {
+        return true;
+    }
+    b == 0x2E
+}
+
+// Whether two lists of bytes are the same, byte for byte.
+pub fn same_bytes(a: &[u8], b: &[u8]) -> bool
+    ensures { λ r. ⌜ r ≡ same (now (a .entry)) (now (b .entry)) ⌝ }
+{
+    let n = a.len();
+    if n != b.len() {
+        return false;
+    }
+    let mut i = 0;
+    while i < n {
+        if a[i] != b[i] {
+            return false;
+        }
+        i += 1;
+    }
+    true
+}
+
+// Whether two texts are the same without case.
+pub fn same_text(a: &[u8], b: &[u8]) -> bool
+    ensures { λ r. ⌜ r ≡ sameText (now (a .entry)) (now (b .entry)) ⌝ }
+{
+    let n = a.len();
+    if n != b.len() {
+        return false;
+    }
+    let mut k = 0;
+    while k < n {
+        let x = lower(a[k]);
+        let y = lower(b[k]);
+        if x != y {
+            return false;
+        }
+        k += 1;
+    }
+    true
+}
+
+// The index of the first b, or the length where there is none.
+pub fn find(s: &[u8], b: u8) -> usize
+    ensures { λ r. ⌜ (r ≡ length (before (is b) (now (s .entry)))) × (r ≤ length (now (s .entry))) ⌝ }
+{
+    let mut at = 0;
+    while at < s.len() {
+        if s[at] == b {
+            return at;
+        }
+        at += 1;
+    }
+    at
+}
+
+// The bytes from a place on.
+pub fn from(s: &[u8], start: usize) -> &[u8]
+    requires { ⌜ start ≤ length (now s) ⌝ }
+    ensures { λ r. ⌜ (now r ≡ drop start (now (s .entry))) × (length (now r) ≡ length (now (s .entry)) - start) ⌝ }
+{
+    &s[start..]
+}
