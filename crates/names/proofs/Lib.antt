@@ -1,0 +1,4 @@
+pub mod Labels
+pub mod Runs
+pub mod Free
+mod Laws
