@@ -1,0 +1,48 @@
+-- The laws that the functions' proofs search.
+use lib.Seq.{length-take-le}
+use Rattle.octets.proofs.Parts.{within-long}
+use Rattle.srv.proofs.Prefixed
+use Rattle.srv.proofs.Match
+use Rattle.srv.proofs.Within
+use Rattle.srv.proofs.Subtree
+
+pub ruleset laws = (
+  length-take-le,
+  within-long,
+  Prefixed.underscored-empty,
+  Prefixed.underscored-first,
+  Prefixed.underscored-some,
+  Prefixed.srv-bare,
+  Prefixed.srv-underscored,
+  Prefixed.restriction-bare,
+  Prefixed.restriction-service,
+  Prefixed.restriction-parts,
+  Prefixed.parts-service,
+  Prefixed.parts-no-dot,
+  Prefixed.parts-domain,
+  Match.match-bare,
+  Match.match-underscored,
+  Match.parts-short,
+  Match.parts-length,
+  Match.parts-other-byte,
+  Match.parts-other-service,
+  Match.parts-other-domain,
+  Match.parts-no-service,
+  Match.parts-same,
+  Within.within-short,
+  Within.within-equal,
+  Within.within-no-dot,
+  Within.within-last,
+  Subtree.subtree-domain,
+  Subtree.subtree-other-service,
+  Subtree.subtree-service,
+  Subtree.subtree-both,
+  Subtree.name-domain,
+  Subtree.name-no-dot,
+  Subtree.given-free,
+  Subtree.service-none,
+  Subtree.service-short,
+  Subtree.service-differs,
+  Subtree.service-whole,
+  Subtree.service-dotted,
+)

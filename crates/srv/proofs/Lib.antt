@@ -1,0 +1,5 @@
+mod Within
+mod Prefixed
+mod Match
+mod Subtree
+mod Laws

@@ -1,0 +1,186 @@
+// SRV-IDs, what they match, and the SRVName restrictions of name constraints.
+ghost use mathlib.Core.Path.{_≡_};
+ghost use mathlib.Core.Bool.{true, false};
+ghost use mathlib.Core.List.{[], _∷_};
+ghost use Prim.Native.Nat.{_≤_};
+ghost use lib.ListN.{length};
+ghost use Rattle.rules.specs.Bytes.{any, before, begins};
+ghost use Rattle.rules.specs.Names.{dot, is, underscore, sameText, serviceOf, domainOf, srvId, srvMatches, domainWithin, inSubtree};
+ghost use Rattle.rules.specs.Names as rules;
+ghost use Rattle.srv.specs.Parts.{srvParts, partsMatch};
+
+// Whether a text begins with an underscore.
+fn underscored(s: &[u8]) -> bool
+    ensures { λ r. ⌜ r ≡ begins (underscore ∷ []) (now (s .entry)) ⌝ }
+{
+    if s.len() == 0 {
+        return false;
+    }
+    s[0] == 0x5F
+}
+
+// Whether a service, a dot and a domain follow the underscore; the first dot stands at n, or there is none.
+fn parts(rest: &[u8], n: usize) -> bool
+    requires { ⌜ (n ≡ length (before (is dot) (now rest))) × (n ≤ length (now rest)) ⌝ }
+    ensures { λ r. ⌜ r ≡ srvParts (now (rest .entry)) ⌝ }
+{
+    let good = names::service(&rest[..n]);
+    if good {
+        if n == rest.len() {
+            return false;
+        }
+        let domain = octets::from(rest, n + 1);
+        return names::domain(domain);
+    }
+    false
+}
+
+// "SRV-ID: "_", a service .., ".", a domain without wildcard."
+pub fn srv_id(s: &[u8]) -> bool
+    ensures { λ r. ⌜ r ≡ srvId (now (s .entry)) ⌝ }
+{
+    let underscore = underscored(s);
+    if underscore {
+        let rest = octets::from(s, 1);
+        let n = octets::find(rest, 0x2E);
+        return parts(rest, n);
+    }
+    false
+}
+
+// "An SRVName here has one of three texts: `_service`, `_service.domain`, `domain`."
+pub fn restriction(s: &[u8]) -> bool
+    ensures { λ r. ⌜ r ≡ rules.restriction (now (s .entry)) ⌝ }
+{
+    let underscore = underscored(s);
+    if underscore {
+        let rest = octets::from(s, 1);
+        let at = octets::find(rest, 0x2E);
+        if at == rest.len() {
+            return names::service(rest);
+        }
+        return parts(rest, at);
+    }
+    names::domain(s)
+}
+
+// Whether what follows the underscore is a service and a domain that are the reference's. The lengths leave one place for
+// the dot; what is the same is looked at again only to see that it is a service and a domain.
+fn parts_match(service: &[u8], domain: &[u8], rest: &[u8]) -> bool
+    ensures { λ r. ⌜ r ≡ partsMatch (now (service .entry)) (now (domain .entry)) (now (rest .entry)) ⌝ }
+{
+    let n = service.len();
+    if rest.len() <= n {
+        return false;
+    }
+    if rest.len() - n - 1 != domain.len() {
+        return false;
+    }
+    if rest[n] != 0x2E {
+        return false;
+    }
+    let start = &rest[..n];
+    let end = octets::from(rest, n + 1);
+    let same_service = octets::same_text(start, service);
+    if !same_service {
+        return false;
+    }
+    let same_domain = octets::same_text(end, domain);
+    if !same_domain {
+        return false;
+    }
+    let good = names::service(start);
+    if !good {
+        return false;
+    }
+    names::domain(end)
+}
+
+// "Service or scheme and domain must both match, without case."
+pub fn srv_matches(service: &[u8], domain: &[u8], text: &[u8]) -> bool
+    ensures { λ r. ⌜ r ≡ srvMatches (now (service .entry)) (now (domain .entry)) (now (text .entry)) ⌝ }
+{
+    let underscore = underscored(text);
+    if underscore {
+        let rest = octets::from(text, 1);
+        return parts_match(service, domain, rest);
+    }
+    false
+}
+
+// "the subtree's labels are the last labels of its domain": as many bytes at the end are the same, and a dot stands
+// before them.
+pub fn domain_within(subtree: &[u8], name: &[u8]) -> bool
+    ensures { λ r. ⌜ r ≡ domainWithin (now (subtree .entry)) (now (name .entry)) ⌝ }
+{
+    if name.len() < subtree.len() {
+        return false;
+    }
+    if name.len() == subtree.len() {
+        return octets::same_text(subtree, name);
+    }
+    let at = name.len() - subtree.len() - 1;
+    if name[at] != 0x2E {
+        return false;
+    }
+    let end = octets::from(name, at + 1);
+    octets::same_text(subtree, end)
+}
+
+// Whether the domain that an SRVName gives lies in the domain of a subtree.
+fn domain_in(domain: &[u8], name: &[u8]) -> bool
+    ensures { λ r. ⌜ r ≡ domainWithin (now (domain .entry)) (domainOf (now (name .entry))) ⌝ }
+{
+    let n = octets::find(name, 0x2E);
+    if n == name.len() {
+        let none = octets::from(name, n);
+        return domain_within(domain, none);
+    }
+    let end = octets::from(name, n + 1);
+    domain_within(domain, end)
+}
+
+// Whether a service without a dot is the one that an SRVName gives.
+fn service_is(service: &[u8], name: &[u8]) -> bool
+    requires { ⌜ any (is dot) (now service) ≡ false ⌝ }
+    ensures { λ r. ⌜ r ≡ sameText (now (service .entry)) (serviceOf (now (name .entry))) ⌝ }
+{
+    let n = service.len();
+    if name.len() == 0 {
+        return n == 0;
+    }
+    let rest = octets::from(name, 1);
+    if rest.len() < n {
+        return false;
+    }
+    let same = octets::same_text(service, &rest[..n]);
+    if same {
+        if rest.len() == n {
+            return true;
+        }
+        return rest[n] == 0x2E;
+    }
+    false
+}
+
+// "It lies in a subtree if the service is equal, without case, where one is given, and the subtree's labels are the last
+// labels of its domain where a domain is given."
+pub fn in_subtree(subtree: &[u8], name: &[u8]) -> bool
+    ensures { λ r. ⌜ r ≡ inSubtree (now (subtree .entry)) (now (name .entry)) ⌝ }
+{
+    let underscore = underscored(subtree);
+    if underscore {
+        let rest = octets::from(subtree, 1);
+        let n = octets::find(rest, 0x2E);
+        let same = service_is(&rest[..n], name);
+        if same {
+            if n == rest.len() {
+                return true;
+            }
+            let end = octets::from(rest, n + 1);
+            return domain_in(end, name);
+        }
+        return false;
+    }
+    domain_in(subtree, name)
+}
