@@ -1,0 +1,4 @@
+mod Authority
+mod Host
+mod Uri
+mod Laws

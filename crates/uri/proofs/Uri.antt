@@ -1,0 +1,198 @@
+-- URI-IDs by the place of the first colon, and a scheme that is compared with the reference's before it is judged.
+use Prim.Native.Nat.{ℕ, _+_, _<_, _≤_}
+use mathlib.Core.Path.{_≡_, refl, sym, ap, _∙_}
+use mathlib.Core.Bool.{Bool, true, false, not, _&&_, and-true, and-false, and-assoc, and-comm}
+use mathlib.Core.List.{List, [], _∷_}
+use native.Mathlib.Omega.{arith}
+use lib.ListN.{length, getD, take, drop}
+use lib.Seq.{length-take-le}
+use lib.Dec.{eqb, ltb}
+use borrow.Author.Tests.{eq-eqb, ne-eqb, eqb-true, ltb-true, ltb-false, not-true, not-false}
+use Rattle.octets.proofs.Cases.{by-cases, and-left, and-right, fails, clash, eqb-swap}
+use Rattle.octets.proofs.Compare.{text-length}
+use Rattle.octets.proofs.Place.{part-before, part-after, none-after, passes-at, before-at}
+use Rattle.rules.specs.Bytes.{all, begins, before, after}
+use Rattle.rules.specs.Names.{is, colon, slash, digit, sameText, domain, scheme, schemeOf, authorityOf, hostAndPort, hostOf, portOf, uriId, uriMatches}
+use Rattle.names.proofs.Free.{scheme-no-colon}
+use Rattle.names.proofs.Labels.{same-domain}
+use Rattle.uri.specs.Parts.{hostPort, hosted, hostMatches}
+
+-- the two bytes
+abbrev slashes : List ℕ
+slashes = slash ∷ slash ∷ []
+
+-- ---- "//"
+
+-- too short
+pub slashed-short : (s : List ℕ) → length s < 2 → false ≡ begins slashes s
+unfolding begins
+slashed-short [] h = refl
+slashed-short (x ∷ []) h = sym (and-false (eqb slash x))
+slashed-short (x ∷ y ∷ s) h = absurd (omega arith)
+
+-- another first byte
+pub slashed-first : (s : List ℕ) → 2 ≤ length s → (getD s 0 0 ≡ 0x2F → ⊥) → false ≡ begins slashes s
+unfolding begins
+slashed-first [] h n = absurd (omega arith)
+slashed-first (x ∷ s) h n = rw (ne-eqb slash x (λ e. n (sym e)))
+
+-- the second byte decides
+pub slashed-second : (s : List ℕ) → 2 ≤ length s → getD s 0 0 ≡ 0x2F → eqb (getD s 1 0) 0x2F ≡ begins slashes s
+unfolding begins
+slashed-second [] h e = absurd (omega arith)
+slashed-second (x ∷ []) h e = absurd (omega arith)
+slashed-second (x ∷ y ∷ s) h e =
+    eqb-swap y slash ∙ sym (rw (eq-eqb slash x (sym e)) (and-true (eqb slash y)))
+
+-- a text that begins so has two bytes
+pub slashed-long : (s : List ℕ) (m : Bool) → m ≡ begins slashes s → m ≡ true → 2 ≤ length s
+unfolding begins
+slashed-long [] m f e = clash e f
+slashed-long (x ∷ []) m f e = clash e (f ∙ and-false (eqb slash x))
+slashed-long (x ∷ y ∷ s) m f e = omega arith
+
+-- ---- what a URI-ID is, by what follows the colon
+
+-- the tests of a match in the order in which the code makes them
+shuffle : (p q r t u : Bool) → p && q && r && t && u ≡ q && (r && u) && (p && t)
+shuffle true true true t u = and-comm t u
+shuffle true true false t u = refl
+shuffle true false r t u = refl
+shuffle false true true t u = sym (and-false u)
+shuffle false true false t u = refl
+shuffle false false r t u = refl
+
+module _ (s : List ℕ) where
+  -- what follows the colon, and of that what follows "//"
+  uri-is : uriId s ≡ scheme (schemeOf s) && begins slashes (after (is colon) s) && hosted (hostPort (drop 2 (after (is colon) s)))
+  unfolding uriId hosted hostPort hostOf portOf hostAndPort authorityOf
+  uri-is = and-assoc (scheme (schemeOf s) && begins slashes (after (is colon) s)) (domain (hostOf s)) (all digit (portOf s))
+
+  -- the same of a match
+  match-is : (a d : List ℕ)
+      → uriMatches a d s
+      ≡ begins slashes (after (is colon) s) && hostMatches d (hostPort (drop 2 (after (is colon) s))) && (scheme (schemeOf s) && sameText (schemeOf s) a)
+  unfolding uriMatches hostMatches hostOf hostAndPort hostPort authorityOf
+  match-is a d =
+      rw (uri-is, same-domain)
+      (shuffle (scheme (schemeOf s)) (begins slashes (after (is colon) s)) (hosted (hostAndPort s)) (sameText (schemeOf s) a) (sameText (hostOf s) d))
+
+module _ (s : List ℕ) (n : ℕ) (at : n ≡ length (before (is colon) s)) where
+  -- what follows the colon
+  tail-is : drop (n + 1) s ≡ after (is colon) s
+  tail-is = part-after (is colon) s n at
+
+  -- what stands before it
+  scheme-is : take n s ≡ schemeOf s
+  unfolding schemeOf
+  scheme-is = part-before (is colon) s n at
+
+  -- no colon
+  pub uri-no-colon : n ≡ length s → false ≡ uriId s
+  unfolding begins
+  uri-no-colon h = sym (uri-is s ∙ rw (none-after (is colon) s n at (omega arith), and-false))
+
+  -- no scheme before it
+  pub uri-no-scheme : (r : Bool) → r ≡ scheme (take n s) → not r ≡ true → false ≡ uriId s
+  uri-no-scheme r f e = sym (uri-is s ∙ rw (← scheme-is, ← f, not-true r e))
+
+  module _ (tail : List ℕ) (is-tail : tail ≡ drop (n + 1) s) (m : Bool) (is-m : m ≡ begins slashes tail) where
+    -- no "//" after it
+    pub uri-no-slashes : m ≡ false → false ≡ uriId s
+    uri-no-slashes e = sym (uri-is s ∙ rw (← tail-is, ← is-tail, ← is-m, e, and-false))
+
+    -- both, and the host and the port decide
+    pub uri-hosted : (rest h : List ℕ) (r g : Bool) → rest ≡ drop 2 tail → h ≡ hostPort rest → r ≡ scheme (take n s) → g ≡ hosted h
+        → not r ≡ false → m ≡ true → g ≡ uriId s
+    uri-hosted rest h r g a b c d e f =
+        d ∙ sym (uri-is s ∙ rw (← scheme-is, ← c, not-false r e, ← tail-is, ← is-tail, ← is-m, f, ← a, ← b))
+
+-- ---- compared first: the reference's scheme leaves one place for the colon
+
+module _ (a d s : List ℕ) where
+  module _ (e : uriMatches a d s ≡ true) where
+    -- what a match tells
+    parts : begins slashes (after (is colon) s) && hostMatches d (hostPort (drop 2 (after (is colon) s))) && (scheme (schemeOf s) && sameText (schemeOf s) a) ≡ true
+    parts = sym (match-is s a d) ∙ e
+
+    -- "//" follows the colon
+    is-slashed : begins slashes (after (is colon) s) ≡ true
+    is-slashed = let p = parts in search (and-left, and-right)
+
+    -- the host matches
+    is-host : hostMatches d (hostPort (drop 2 (after (is colon) s))) ≡ true
+    is-host = let p = parts in search (and-left, and-right)
+
+    -- the scheme is one
+    is-scheme : scheme (schemeOf s) ≡ true
+    is-scheme = let p = parts in search (and-left, and-right)
+
+    -- and the same
+    scheme-same : sameText (schemeOf s) a ≡ true
+    scheme-same = let p = parts in search (and-left, and-right)
+
+    -- the first colon stands past as many bytes as the scheme of the reference has
+    place : length a ≡ length (before (is colon) s)
+    unfolding schemeOf
+    place = sym (text-length _ _ scheme-same)
+
+    -- and there is one
+    has-colon : length a < length s
+    unfolding begins
+    has-colon =
+        by-cases (ltb (length a) (length s)) (λ k. ltb-true (length a) (length s) k)
+        (λ k. clash is-slashed (ap (begins slashes) (none-after (is colon) s (length a) place (ltb-false (length a) (length s) k))))
+
+  -- too short
+  pub match-short : length s ≤ length a → false ≡ uriMatches a d s
+  match-short h = fails _ (λ e. omega (arith, has-colon e))
+
+  -- no colon there
+  pub match-no-colon : (getD s (length a) 0 ≡ 0x3A → ⊥) → false ≡ uriMatches a d s
+  match-no-colon n = fails _ (λ e. n (eqb-true _ _ (passes-at (is colon) s (length a) (place e) (has-colon e))))
+
+  -- another scheme
+  pub match-other-scheme : (r : Bool) → r ≡ sameText (take (length a) s) a → not r ≡ true → false ≡ uriMatches a d s
+  match-other-scheme r f h =
+      fails _ (λ e. clash (scheme-same e) (rw (← scheme-is s (length a) (place e)) (sym f ∙ not-true r h)))
+
+  module _ (tail : List ℕ) (is-tail : tail ≡ drop (length a + 1) s) (m : Bool) (is-m : m ≡ begins slashes tail) where
+    -- what follows the place is what follows the colon
+    tail-after : uriMatches a d s ≡ true → tail ≡ after (is colon) s
+    tail-after e = is-tail ∙ tail-is s (length a) (place e)
+
+    -- no "//"
+    pub match-no-slashes : m ≡ false → false ≡ uriMatches a d s
+    match-no-slashes h = fails _ (λ e. clash (is-slashed e) (rw (← tail-after e) (sym is-m ∙ h)))
+
+    module _ (rest h : List ℕ) (r : Bool) (is-rest : rest ≡ drop 2 tail) (is-h : h ≡ hostPort rest) (is-r : r ≡ hostMatches d h) where
+      -- another host
+      pub match-other-host : r ≡ false → false ≡ uriMatches a d s
+      match-other-host k =
+          fails _ (λ e. clash (is-host e) (rw (← tail-after e, ← is-rest, ← is-h) (sym is-r ∙ k)))
+
+      -- all is the same, and whether the scheme is one decides
+      pub match-scheme : (q t : Bool) → q ≡ sameText (take (length a) s) a → t ≡ scheme (take (length a) s) → length a < length s
+          → getD s (length a) 0 ≡ 0x3A → not q ≡ false → m ≡ true → r ≡ true → t ≡ uriMatches a d s
+      match-scheme q t is-q is-t l c o n k =
+          by-cases t
+          (λ e.
+          let b : before (is colon) s ≡ take (length a) s =
+          before-at (is colon) s (length a) l (scheme-no-colon (take (length a) s) (sym is-t ∙ e)) (eq-eqb _ _ c) in
+          let at : length a ≡ length (before (is colon) s) = sym (ap length b ∙ length-take-le (length a) s (omega arith)) in
+          sym (match-is s a d
+          ∙ rw (
+            ← scheme-is s (length a) at,
+            ← tail-is s (length a) at,
+            ← is-tail,
+            ← is-m,
+            n,
+            ← is-rest,
+            ← is-h,
+            ← is-r,
+            k,
+            ← is-t,
+            ← is-q,
+            not-false q o,
+          ) (and-true t)))
+          (λ e. e ∙ fails _ (λ f. clash (is-scheme f) (rw (← scheme-is s (length a) (place f)) (sym is-t ∙ e))))
