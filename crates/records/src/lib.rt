@@ -1,0 +1,150 @@
+// Reference records: whether they are good, and the record reader. Document 01, "Reference records".
+use octets::wide;
+use rules::ACCEPTED;
+use rules::CN;
+use rules::DNS;
+use rules::INPUT_TOO_LONG;
+use rules::RECORD_SIZE;
+use rules::RECORDS_LIMIT;
+use rules::RECORDS_UNREADABLE;
+use rules::SRV;
+use rules::Shown;
+use rules::URI;
+ghost use mathlib.Core.Path.{_≡_};
+ghost use Prim.Native.Nat.{_≤_};
+ghost use lib.ListN.{length};
+ghost use lib.Dec.{eqb};
+ghost use Rattle.rules.specs.Bytes.{all};
+ghost use Rattle.rules.specs.Records as records;
+ghost use Rattle.records.specs.Small.{SmallShown};
+
+// Whether every byte is zero: they are added up, without a branch, which the compiler does many at a time.
+fn all_zero(s: &[u8]) -> bool
+    requires { ⌜ length (now s) ≤ 320 ⌝ }
+    ensures { λ r. ⌜ r ≡ all (λ b. eqb b 0) (now (s .entry)) ⌝ }
+{
+    let mut sum: usize = 0;
+    let mut i = 0;
+    while i < s.len() {
+        sum += wide(s[i]);
+        i += 1;
+    }
+    sum == 0
+}
+
+// Whether a text of n bytes fits its field, "filled with zeros".
+fn filled(field: &[u8], n: usize) -> bool
+    requires { ⌜ length (now field) ≤ 320 ⌝ }
+    ensures { λ r. ⌜ r ≡ records.filled (now (field .entry)) n ⌝ }
+{
+    if field.len() < n {
+        return false;
+    }
+    all_zero(&field[n..])
+}
+
+// "Kinds 1 and 4 have service length 0. Kind 2: a service .. Kind 3: a URI scheme"
+fn good_service(kind: u8, s: &[u8]) -> bool
+    ensures { λ r. ⌜ r ≡ records.goodService kind (now (s .entry)) ⌝ }
+{
+    if kind == DNS {
+        return s.len() == 0;
+    }
+    if kind == CN {
+        return s.len() == 0;
+    }
+    if kind == SRV {
+        return names::service(s);
+    }
+    if kind == URI {
+        return names::scheme(s);
+    }
+    false
+}
+
+// Whether the 320 bytes of one record are good.
+fn good_record(b: &[u8]) -> bool
+    requires { ⌜ length (now b) ≡ 320 ⌝ }
+    ensures { λ r. ⌜ r ≡ records.goodRecord (now (b .entry)) ⌝ }
+{
+    if b[1] != 0 {
+        return false;
+    }
+    let service = wide(b[2]);
+    let fits = filled(&b[4..67], service);
+    if !fits {
+        return false;
+    }
+    let domain = wide(b[3]);
+    let fits = filled(&b[67..320], domain);
+    if !fits {
+        return false;
+    }
+    let good = good_service(b[0], &b[4..4 + service]);
+    if !good {
+        return false;
+    }
+    names::domain(&b[67..67 + domain])
+}
+
+// "Anything else, a total of 0 bytes, or one not divisible by 320 is answer 6."
+pub fn good_records(references: &[u8]) -> bool
+    ensures { λ r. ⌜ r ≡ records.goodRecords (now (references .entry)) ⌝ }
+{
+    let n = references.len();
+    if n == 0 {
+        return false;
+    }
+    if n % RECORD_SIZE != 0 {
+        return false;
+    }
+    let mut at = 0;
+    while at < n {
+        let good = good_record(&references[at..at + RECORD_SIZE]);
+        if !good {
+            return false;
+        }
+        at += RECORD_SIZE;
+    }
+    true
+}
+
+// An answer with no record beside it.
+fn no_record(answer: usize) -> Shown
+    ensures { λ r. ⌜ r ≡ records.noRecord answer ⌝ }
+{
+    Shown {
+        answer: answer,
+        kind: 0,
+        service: 0,
+        domain: 0,
+    }
+}
+
+// "The record reader takes an index too: 7, then 6, else 0; beside it that record's kind and two lengths, zeros on a refusal or
+// past the last."
+pub fn show(references: &[u8], index: usize) -> Shown
+    ensures { λ r. ⌜ (r ≡ records.shown (now (references .entry)) index) × SmallShown r ⌝ }
+{
+    let n = references.len();
+    if RECORDS_LIMIT < n {
+        return no_record(INPUT_TOO_LONG);
+    }
+    let good = good_records(references);
+    if !good {
+        return no_record(RECORDS_UNREADABLE);
+    }
+    if n / RECORD_SIZE <= index {
+        return no_record(ACCEPTED);
+    }
+    let at = index * RECORD_SIZE;
+    let kind = wide(references[at]);
+    let service = wide(references[at + 2]);
+    let domain = wide(references[at + 3]);
+    Shown {
+        answer: ACCEPTED,
+        kind: kind,
+        service: service,
+        domain: domain,
+    }
+}
