@@ -1,0 +1,13 @@
+pub mod Order
+pub mod Looked
+pub mod Endings
+pub mod FirstPair
+pub mod Judged
+pub mod Verdicts
+pub mod Listings
+pub mod Presented
+pub mod Places
+pub mod Witness
+pub mod Records
+pub mod Demands
+pub mod Unreadable

@@ -1,0 +1,1 @@
+// No code: specs/Statements.antt says the demands as theorems, and proofs/ proves them.
