@@ -1,0 +1,18 @@
+-- A table of four rows that held other rows before a listing.
+use Prim.Native.Nat.{ℕ}
+use mathlib.Core.List.{List}
+use lib.ListN.{getD, replicate}
+use Rattle.rules.specs.Listing.{listedOf, tableAfter}
+use Rattle.rules.specs.declared.Row.{Row}
+use Rattle.listing.specs.Listing.{refusalOf, seenRows}
+use Rattle.listed.specs.declared.After.{After}
+
+abbrev pub oldRow : Row
+oldRow = record { kind = 77; start = 77; length = 77; group = 77 }
+
+-- what is answered, and row k afterwards
+abbrev pub afterOf : ℕ → List ℕ → ℕ → After
+afterOf which b k = record {
+  listed = listedOf (refusalOf which) (seenRows which b) 4;
+  row = getD (tableAfter (seenRows which b) (replicate 4 oldRow)) k oldRow;
+}

@@ -1,0 +1,27 @@
+-- What each function of the crate returns, by its own tests.
+use Rattle.listing.proofs.Planning.{limit-san, limit-subject, limit-constraints, refusal-san, refusal-subject, refusal-constraints, first-entry, first-attribute, first-subtree, entry-step, attribute-step, subtree-step, san-absent, san-counted, subject-counted, constraints-absent, constraints-counted, refused-is, plan-long, plan-unreadable, plan-short, plan-rows}
+
+pub ruleset laws = (
+  limit-san,
+  limit-subject,
+  limit-constraints,
+  refusal-san,
+  refusal-subject,
+  refusal-constraints,
+  first-entry,
+  first-attribute,
+  first-subtree,
+  entry-step,
+  attribute-step,
+  subtree-step,
+  san-absent,
+  san-counted,
+  subject-counted,
+  constraints-absent,
+  constraints-counted,
+  refused-is,
+  plan-long,
+  plan-unreadable,
+  plan-short,
+  plan-rows,
+)
