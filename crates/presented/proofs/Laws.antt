@@ -1,0 +1,77 @@
+-- What each function of the crate returns, by its own tests.
+use mathlib.Core.Path.{_≡_, refl}
+use Prim.Native.Nat.{ℕ, _-_}
+use mathlib.Core.Bool.{true, false}
+use Rattle.presented.specs.Presented.{silentAt, shownAt}
+use Rattle.entries.proofs.Rules.{no-name}
+use Rattle.presented.proofs.Entries.{header-never, header-is, name-found, name-never, name-is, for-dns, for-uri, for-srv, for-none, name-bounds, entry-none, entry-kind, entry-other}
+use Rattle.presented.proofs.Sets.{attribute-found, attribute-never, text-ends, attribute-cn, attribute-other, cn-first, cn-more, cn-none, set-found, set-readable, set-begin, set-next, set-less, set-within, set-again, set-step, set-sole, set-none}
+use Rattle.presented.proofs.Strings.{start-found, start-none, san-within, san-start, blocks-begin, name-next, name-less, name-within, name-again, blocks-here, blocks-next, blocks-end, first-blocked, first-cn, first-san, cn-short, cn-readable, cn-presented, san-short, san-readable, san-presented}
+use Rattle.der.proofs.Elements.{not-found}
+
+pub silent-is : (next : ℕ) → record { presents = false; element = record { start = 0; length = 0 }; text = record { start = 0; length = 0 }; next = next } ≡ silentAt next
+unfolding silentAt
+silent-is next = refl
+
+pub shown-is : (at text next : ℕ) → record { presents = true; element = record { start = at; length = next - at }; text = record { start = text; length = next - text }; next = next } ≡ shownAt at text next
+unfolding shownAt
+shown-is at text next = refl
+
+pub ruleset laws = (
+  not-found,
+  no-name,
+  silent-is,
+  shown-is,
+  header-never,
+  header-is,
+  name-found,
+  name-never,
+  name-is,
+  for-dns,
+  for-uri,
+  for-srv,
+  for-none,
+  name-bounds,
+  entry-none,
+  entry-kind,
+  entry-other,
+  attribute-found,
+  attribute-never,
+  text-ends,
+  attribute-cn,
+  attribute-other,
+  cn-first,
+  cn-more,
+  cn-none,
+  set-found,
+  set-readable,
+  set-begin,
+  set-next,
+  set-less,
+  set-within,
+  set-again,
+  set-step,
+  set-sole,
+  set-none,
+  start-found,
+  start-none,
+  san-within,
+  san-start,
+  blocks-begin,
+  name-next,
+  name-less,
+  name-within,
+  name-again,
+  blocks-here,
+  blocks-next,
+  blocks-end,
+  first-blocked,
+  first-cn,
+  first-san,
+  cn-short,
+  cn-readable,
+  cn-presented,
+  san-short,
+  san-readable,
+  san-presented,
+)
