@@ -1,0 +1,27 @@
+use borrow.Author.Needs.{needs}
+use Rattle.constrained.proofs.Groups.{laws}
+use Rattle.constrained.proofs.both_sides.Statement.{statement}
+use Rattle.constrained.proofs.both_sides.Tie as tie
+use Rattle.constrained.proofs.both_sides.Reads as reads
+use Rattle.constrained.proofs.both_sides.Lts as lts
+use Rattle.constrained.proofs.sides_from.Reads as sides-from-reads
+use Rattle.der.proofs.read_element.Reads as read-element-reads
+
+read-element-requires : tie.Need-read-element-requires
+read-element-requires c κs = search needs
+
+enum-known-e : tie.Need-enum-known-e
+enum-known-e c = search needs
+
+returns : tie.Need-returns
+returns c = search (needs, laws)
+
+sides-from-requires : tie.Need-sides-from-requires
+sides-from-requires c κs = search (needs, laws)
+
+returns-2 : tie.Need-returns-2
+returns-2 c = search needs
+
+pub both-sides-spec : {M : Type 1} → statement M
+both-sides-spec =
+    tie.close (tie.spec read-element-requires enum-known-e returns sides-from-requires returns-2)
