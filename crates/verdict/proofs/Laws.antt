@@ -1,0 +1,436 @@
+-- The laws that the functions' proofs search: one for each return.
+use Prim.Native.Nat.{ℕ, zero, suc, _+_, _-_, _≤_, _<_}
+use mathlib.Core.Path.{_≡_, refl, sym, ap, _∙_}
+use mathlib.Core.Bool.{Bool, true, false, cond, not, _&&_, _||_}
+use mathlib.Core.Option.{Option, none, some, Option·getD}
+use mathlib.Core.List.{List, [], _∷_}
+use native.Mathlib.Omega.{arith}
+use native.Mathlib.Nat.{add-sub-cancel-left}
+use lib.ListN.{length, take, drop}
+use lib.Dec.{T, ltb}
+use borrow.Author.Tests.{lt-ltb, le-ltb, not-true, not-false}
+use Rattle.rules.specs.Bytes.{part, some?}
+use Rattle.rules.specs.Numbers.{sanLimit, subjectLimit, constraintsLimit, recordsLimit}
+use Rattle.rules.specs.Records.{goodRecords, referencesOf}
+use Rattle.rules.specs.Seen.{seenRecords}
+use Rattle.rules.specs.Matching.{Pair, firstPair, firstBroken}
+use Rattle.rules.specs.Verdict.{past, witnessPart, witnessText, witnessPlace, witnessOf, matchedOr, brokenOr, judged, outcomeOf, answered, numbersOf, verdictOf}
+use Rattle.rules.specs.declared.Verdict.{Verdict}
+use Rattle.rules.specs.declared.Place.{Place}
+use Rattle.rules.specs.declared.Witness.{Witness}
+use Rattle.rules.specs.declared.Outcome.{Outcome}
+use Rattle.rules.specs.declared.Outcome.the-variants.{Refused, Broken, Matched, Mismatched}
+use Rattle.reading.specs.Strings.{readSan, readSubject, readConstraints}
+use Rattle.reading.specs.Views.{seenSan, seenSubject, seenConstraints}
+use Rattle.entries.specs.Entries.{isSome}
+use Rattle.strings.specs.Counts.{placeCount}
+use Rattle.strings.specs.declared.Count.{Count}
+use Rattle.strings.specs.declared.Count.the-variants.{Of, Unreadable}
+use Rattle.constrained.specs.Run as run
+use Rattle.constrained.specs.Run.{validated, namesOf}
+use Rattle.constrained.specs.Broken.{brokenAt}
+use Rattle.constrained.specs.declared.Broken as broken
+use Rattle.constrained.specs.declared.Broken.the-variants.{At, Nothing}
+use Rattle.presented.specs.Presented as presented
+use Rattle.pairs.specs.Pairs.{Fits, OutcomeFits}
+use Rattle.verdict.specs.Judging.{anyLong, subjectRead, refusalOf, SmallWitness, Small, SmallNumbers, SmallPlace}
+use Rattle.verdict.proofs.Refusing.{whole, AllRead, sizes-fit, refused-is, all-read, judged-is}
+
+-- ---- any_long
+
+module _ (R S J C : List ℕ) where
+  pub long-records : recordsLimit < length R → true ≡ anyLong R S J C
+  unfolding anyLong
+  long-records h = simp (lt-ltb recordsLimit (length R) h)
+
+  module _ (r : length R ≤ recordsLimit) where
+    pub long-san : sanLimit < length S → true ≡ anyLong R S J C
+    unfolding anyLong
+    long-san h = simp (le-ltb recordsLimit (length R) r, lt-ltb sanLimit (length S) h)
+
+    module _ (s : length S ≤ sanLimit) where
+      pub long-subject : subjectLimit < length J → true ≡ anyLong R S J C
+      unfolding anyLong
+      long-subject h = simp (le-ltb recordsLimit (length R) r, le-ltb sanLimit (length S) s, lt-ltb subjectLimit (length J) h)
+
+      pub long-constraints : length J ≤ subjectLimit → ltb constraintsLimit (length C) ≡ anyLong R S J C
+      unfolding anyLong
+      long-constraints h = simp (le-ltb recordsLimit (length R) r, le-ltb sanLimit (length S) s, le-ltb subjectLimit (length J) h)
+
+-- ---- readable or not
+
+module _ {N : Type 0} (read : List ℕ → Option (List N)) (s : List ℕ) where
+  counted : (c : Count) → c ≡ placeCount (read s) → (k : ℕ) → c ≡ Of k → true ≡ isSome (read s)
+  unfolding placeCount
+  counted c e k f = go (read s) (sym e ∙ f)
+    where
+      go : (o : Option (List N)) → placeCount o ≡ Of k → true ≡ isSome o
+      go none g = let z : _≡_ {A = ℕ} 0 1 = cc in absurd (omega arith)
+      go (some l) g = refl
+
+  uncounted : (c : Count) → c ≡ placeCount (read s) → c ≡ Unreadable → false ≡ isSome (read s)
+  unfolding placeCount
+  uncounted c e f = go (read s) (sym e ∙ f)
+    where
+      go : (o : Option (List N)) → placeCount o ≡ Unreadable → false ≡ isSome o
+      go none g = refl
+      go (some l) g = let z : _≡_ {A = ℕ} 0 1 = cc in absurd (omega arith)
+
+  pub valid-absent : length s ≡ 0 → true ≡ validated read s
+  valid-absent e = sym (run.absent-valid read s e)
+
+  pub valid-counted : (c : Count) → c ≡ placeCount (read s) → (k : ℕ) → c ≡ Of k → true ≡ validated read s
+  valid-counted c e k f = sym (run.read-valid read s (sym (counted c e k f)))
+
+  pub valid-not : (length s ≡ 0 → ⊥) → (c : Count) → c ≡ placeCount (read s) → c ≡ Unreadable → false ≡ validated read s
+  unfolding validated
+  valid-not h c e f = rw (← uncounted c e f) (go s h)
+    where
+      go : (b : List ℕ) → (length b ≡ 0 → ⊥) → false ≡ (not (some? b) || false)
+      go [] g = absurd (g refl)
+      go (x ∷ b) g = refl
+
+module _ (s : List ℕ) (c : Count) (e : c ≡ placeCount (readSubject s)) where
+  pub subject-counted : (k : ℕ) → c ≡ Of k → true ≡ subjectRead s
+  unfolding subjectRead
+  subject-counted k f = counted readSubject s c e k f
+
+  pub subject-not : c ≡ Unreadable → false ≡ subjectRead s
+  unfolding subjectRead
+  subject-not f = uncounted readSubject s c e f
+
+-- ---- refusal
+
+module _ (R S J C : List ℕ) (t : Bool) (t-is : t ≡ anyLong R S J C) where
+  pub ref-long : t ≡ true → 7 ≡ refusalOf R S J C
+  unfolding refusalOf
+  ref-long h = simp (← t-is, h)
+
+  module _ (t-not : t ≡ false) (g : Bool) (g-is : g ≡ goodRecords R) where
+    pub ref-records : not g ≡ true → 6 ≡ refusalOf R S J C
+    unfolding refusalOf
+    ref-records h = simp (← t-is, t-not, ← g-is, h)
+
+    module _ (good : not g ≡ false) (a : Bool) (a-is : a ≡ validated readSan S) where
+      pub ref-san : not a ≡ true → 3 ≡ refusalOf R S J C
+      unfolding refusalOf
+      ref-san h = simp (← t-is, t-not, ← g-is, good, ← a-is, h)
+
+      module _ (san : not a ≡ false) (b : Bool) (b-is : b ≡ subjectRead J) where
+        pub ref-subject : not b ≡ true → 4 ≡ refusalOf R S J C
+        unfolding refusalOf
+        ref-subject h = simp (← t-is, t-not, ← g-is, good, ← a-is, san, ← b-is, h)
+
+        module _ (subject : not b ≡ false) (c : Bool) (c-is : c ≡ validated readConstraints C) where
+          pub ref-constraints : not c ≡ true → 5 ≡ refusalOf R S J C
+          unfolding refusalOf
+          ref-constraints h = simp (← t-is, t-not, ← g-is, good, ← a-is, san, ← b-is, subject, ← c-is, h)
+
+          pub ref-none : not c ≡ false → 0 ≡ refusalOf R S J C
+          unfolding refusalOf
+          ref-none h = simp (← t-is, t-not, ← g-is, good, ← a-is, san, ← b-is, subject, ← c-is, h)
+
+pub refusal-small : (R S J C : List ℕ) (n : ℕ) → n ≡ refusalOf R S J C → n ≤ 7
+unfolding refusalOf
+refusal-small R S J C n e = rw e (go (anyLong R S J C) (not (goodRecords R)) (not (validated readSan S)) (not (subjectRead J)) (not (validated readConstraints C)))
+  where
+    go : (t g a b c : Bool) → cond t 7 (cond g 6 (cond a 3 (cond b 4 (cond c 5 0)))) ≤ 7
+    go true g a b c = omega arith
+    go false true a b c = omega arith
+    go false false true b c = omega arith
+    go false false false true c = omega arith
+    go false false false false true = omega arith
+    go false false false false false = omega arith
+
+-- ---- outcome
+
+-- the place of a witness in its string, and so below the longest string's length
+module _ (S J : List ℕ) (s : length S ≤ sanLimit) (j : length J ≤ subjectLimit) where
+  string-small : (t : Bool) → length (cond t J S) ≤ sanLimit
+  string-small true = omega arith
+  string-small false = s
+
+-- a search that ends with the first pair or with none
+small-outcome : (R S J : List ℕ) → (length R ≤ recordsLimit) × (length S ≤ sanLimit) × (length J ≤ subjectLimit)
+    → (x : Option Pair) → OutcomeFits R S J (matchedOr x) → Small S J (matchedOr x)
+unfolding Small OutcomeFits
+small-outcome R S J h none f = tt
+small-outcome R S J h (some p) f =
+    let w = witnessOf p in
+    let l = string-small S J (h .1) (h .2) (w .subject) in
+    record {
+      reference-small = omega (arith, f .reference-fits);
+      presented-small = omega (arith, f .presented-fits);
+      start-small = omega (arith, f .element-fits);
+      length-small = omega (arith, f .element-fits);
+      text-small = omega (arith, f .text-fits);
+      text-fits = f .text-fits;
+    }
+
+module _ (R S J C : List ℕ) (n : ℕ) (n-is : n ≡ refusalOf R S J C) where
+  pub out-refused : (n ≡ 0 → ⊥) → Refused n ≡ whole R S J C
+  out-refused h = refused-is R S J C n n-is h
+
+  pub refused-small : Small S J (Refused n)
+  unfolding Small
+  refused-small = omega (arith, refusal-small R S J C n n-is)
+
+  module _ (zero-is : n ≡ 0) where
+    read : AllRead R S J C
+    read = all-read R S J C n n-is zero-is
+
+    pub asks-san : validated readSan S ≡ true
+    asks-san = read .san
+
+    pub asks-constraints : validated readConstraints C ≡ true
+    asks-constraints = read .constraints
+
+    pub asks-records : goodRecords R ≡ true
+    asks-records = read .good
+
+    pub asks-san-read : presented.sanReadable S ≡ true
+    unfolding presented.sanReadable validated
+    asks-san-read = read .san
+
+    pub asks-subject : presented.subjectReadable J ≡ true
+    unfolding presented.subjectReadable subjectRead
+    asks-subject = read .subject
+
+    module _ (b : broken.Broken) (b-is : b ≡ brokenAt (firstBroken 0 (namesOf readConstraints C) (namesOf readSan S))) where
+      judged-broken : (o : Option ℕ) (x : Outcome) (i : ℕ) → brokenAt o ≡ At i → brokenOr o x ≡ Broken i
+      unfolding brokenAt
+      judged-broken none x i e = let z : _≡_ {A = ℕ} 0 1 = cc in absurd (omega arith)
+      judged-broken (some k) x i e = cc
+
+      judged-whole : (o : Option ℕ) (x : Outcome) → brokenAt o ≡ Nothing → brokenOr o x ≡ x
+      unfolding brokenAt
+      judged-whole none x e = refl
+      judged-whole (some k) x e = let z : _≡_ {A = ℕ} 0 1 = cc in absurd (omega arith)
+
+      module _ (i : ℕ) (e : b ≡ At i) where
+        pub out-broken : Broken i ≡ whole R S J C
+        unfolding judged
+        out-broken = sym (judged-is R S J C n n-is zero-is ∙ judged-broken _ _ i (sym b-is ∙ e))
+
+        pub broken-small : ((k : ℕ) → b ≡ At k → k ≤ length S) → Small S J (Broken i)
+        unfolding Small
+        broken-small small = omega (arith, small i e, sizes-fit R S J C (read .short))
+
+      module _ (e : b ≡ Nothing) (o : Outcome) (o-is : o ≡ matchedOr (firstPair 0 (referencesOf R) (presented.sanNames S) (presented.subjectNames J))) where
+        pub out-pair : o ≡ whole R S J C
+        unfolding judged namesOf presented.sanNames presented.subjectNames
+        out-pair = o-is ∙ sym (judged-is R S J C n n-is zero-is ∙ judged-whole _ _ (sym b-is ∙ e))
+
+        pub pair-small : OutcomeFits R S J o → Small S J o
+        pair-small fits =
+            rw o-is
+            (small-outcome R S J (sizes-fit R S J C (read .short)) (firstPair 0 (referencesOf R) (presented.sanNames S) (presented.subjectNames J)) (rw o-is at fits))
+
+-- ---- numbers
+
+module _ (o : Outcome) where
+  pub num-refused : (v : Verdict) (n : ℕ) → o ≡ Refused n → v ≡ answered n 0 → v ≡ numbersOf o
+  unfolding numbersOf
+  num-refused v n e f = f ∙ rw e
+
+  pub num-broken : (v : Verdict) (i : ℕ) → o ≡ Broken i → v ≡ answered 2 i → v ≡ numbersOf o
+  unfolding numbersOf
+  num-broken v i e f = f ∙ rw e
+
+  pub num-matched : (w : Witness) → o ≡ Matched w
+      → record { answer = 0; reference = w .reference; presented = w .presented; start = w .element .start; length = w .element .length } ≡ numbersOf o
+  unfolding numbersOf
+  num-matched w e = rw e
+
+  pub num-mismatched : (v : Verdict) → o ≡ Mismatched → v ≡ answered 1 0 → v ≡ numbersOf o
+  unfolding numbersOf
+  num-mismatched v e f = f ∙ rw e
+
+numbers-small-of : (S J : List ℕ) (p : Outcome) → Small S J p → SmallNumbers (numbersOf p)
+unfolding numbersOf Small
+numbers-small-of S J (Refused n) q = record {
+  answer-small = q;
+  reference-small = omega arith;
+  presented-small = omega arith;
+  start-small = omega arith;
+  length-small = omega arith;
+}
+numbers-small-of S J (Broken i) q = record {
+  answer-small = omega arith;
+  reference-small = omega arith;
+  presented-small = q;
+  start-small = omega arith;
+  length-small = omega arith;
+}
+numbers-small-of S J (Matched w) q = record {
+  answer-small = omega arith;
+  reference-small = omega (arith, q .reference-small);
+  presented-small = q .presented-small;
+  start-small = q .start-small;
+  length-small = q .length-small;
+}
+numbers-small-of S J Mismatched q = record {
+  answer-small = omega arith;
+  reference-small = omega arith;
+  presented-small = omega arith;
+  start-small = omega arith;
+  length-small = omega arith;
+}
+
+module _ (R S J C : List ℕ) (o : Outcome) (v : Verdict) (v-is : v ≡ numbersOf o) where
+  pub verdict-is : o ≡ whole R S J C → v ≡ verdictOf (seenRecords R) (seenSan S) (seenSubject J) (seenConstraints C)
+  unfolding verdictOf
+  verdict-is e = v-is ∙ ap numbersOf e
+
+  pub verdict-small : Small S J o → SmallNumbers v
+  verdict-small q = rw v-is (numbers-small-of S J o q)
+
+-- ---- the witness's text
+
+module _ (o : Outcome) where
+  pub text-matched : (w : Witness) → o ≡ Matched w → w .text ≡ witnessPart o
+  unfolding witnessPart
+  text-matched w e = rw e
+
+  pub text-refused : (n : ℕ) → o ≡ Refused n → record { start = 0; length = 0 } ≡ witnessPart o
+  unfolding witnessPart
+  text-refused n e = rw e
+
+  pub text-broken : (i : ℕ) → o ≡ Broken i → record { start = 0; length = 0 } ≡ witnessPart o
+  unfolding witnessPart
+  text-broken i e = rw e
+
+  pub text-mismatched : o ≡ Mismatched → record { start = 0; length = 0 } ≡ witnessPart o
+  unfolding witnessPart
+  text-mismatched e = rw e
+
+part-small-of : (S J : List ℕ) (p : Outcome) → Small S J p → SmallPlace (witnessPart p)
+unfolding Small witnessPart
+part-small-of S J (Refused n) q = record { start-small = omega arith; length-small = omega arith }
+part-small-of S J (Broken i) q = record { start-small = omega arith; length-small = omega arith }
+part-small-of S J (Matched w) q = record { start-small = omega (arith, q .text-small); length-small = omega (arith, q .text-small) }
+part-small-of S J Mismatched q = record { start-small = omega arith; length-small = omega arith }
+
+module _ (R S J C : List ℕ) (o : Outcome) (p : Place) (p-is : p ≡ witnessPart o) where
+  pub place-is : o ≡ whole R S J C → p ≡ witnessPart (whole R S J C)
+  place-is e = p-is ∙ ap witnessPart e
+
+  pub place-small : Small S J o → SmallPlace p
+  place-small q = rw p-is (part-small-of S J o q)
+
+-- ---- the witness, in its string
+
+module _ (w : Witness) (S J : List ℕ) where
+  pub fits-subject : SmallWitness S J w → w .subject ≡ true → w .text .start + w .text .length ≤ length J
+  fits-subject q e = rw e at (q .text-fits)
+
+  pub fits-san : SmallWitness S J w → w .subject ≡ false → w .text .start + w .text .length ≤ length S
+  fits-san q e = rw e at (q .text-fits)
+
+  pub bytes-subject : w .subject ≡ true → take (w .text .start + w .text .length - w .text .start) (drop (w .text .start) J) ≡ witnessText S J (Matched w)
+  unfolding witnessText part
+  bytes-subject e = rw (e, add-sub-cancel-left)
+
+  pub bytes-san : w .subject ≡ false → take (w .text .start + w .text .length - w .text .start) (drop (w .text .start) S) ≡ witnessText S J (Matched w)
+  unfolding witnessText part
+  bytes-san e = rw (e, add-sub-cancel-left)
+
+module _ (w : Witness) (p q : ℕ × ℕ) where
+  pub place-subject : w .subject ≡ true → past q (w .text .start) ≡ witnessPlace p q (Matched w)
+  unfolding witnessPlace
+  place-subject e = rw e
+
+  pub place-san : w .subject ≡ false → past p (w .text .start) ≡ witnessPlace p q (Matched w)
+  unfolding witnessPlace
+  place-san e = rw e
+
+module _ (o : Outcome) (S J : List ℕ) where
+  pub small-witness : Small S J o → (w : Witness) → o ≡ Matched w → SmallWitness S J w
+  unfolding Small
+  small-witness q w e = rw e at q
+
+  pub shown-refused : (n : ℕ) → o ≡ Refused n → [] ≡ witnessText S J o
+  unfolding witnessText
+  shown-refused n e = rw e
+
+  pub shown-broken : (i : ℕ) → o ≡ Broken i → [] ≡ witnessText S J o
+  unfolding witnessText
+  shown-broken i e = rw e
+
+  pub shown-mismatched : o ≡ Mismatched → [] ≡ witnessText S J o
+  unfolding witnessText
+  shown-mismatched e = rw e
+
+  pub shown-matched : (w : Witness) → o ≡ Matched w → (t : List ℕ) → t ≡ witnessText S J (Matched w) → t ≡ witnessText S J o
+  shown-matched w e t f = f ∙ rw e
+
+module _ (o : Outcome) (p q : ℕ × ℕ) where
+  pub at-refused : (n : ℕ) → o ≡ Refused n → p ≡ witnessPlace p q o
+  unfolding witnessPlace
+  at-refused n e = rw e
+
+  pub at-broken : (i : ℕ) → o ≡ Broken i → p ≡ witnessPlace p q o
+  unfolding witnessPlace
+  at-broken i e = rw e
+
+  pub at-mismatched : o ≡ Mismatched → p ≡ witnessPlace p q o
+  unfolding witnessPlace
+  at-mismatched e = rw e
+
+  pub at-matched : (w : Witness) → o ≡ Matched w → (t : ℕ × ℕ) → t ≡ witnessPlace p q (Matched w) → t ≡ witnessPlace p q o
+  at-matched w e t f = f ∙ rw e
+
+module _ (R S J C : List ℕ) (o : Outcome) (o-is : o ≡ whole R S J C) where
+  pub witness-bytes : (t : List ℕ) → t ≡ witnessText S J o → t ≡ witnessText S J (whole R S J C)
+  witness-bytes t e = e ∙ ap (witnessText S J) o-is
+
+  pub witness-place : (p q t : ℕ × ℕ) → t ≡ witnessPlace p q o → t ≡ witnessPlace p q (whole R S J C)
+  witness-place p q t e = e ∙ ap (witnessPlace p q) o-is
+
+pub ruleset texts = (
+  text-matched,
+  text-refused,
+  text-broken,
+  text-mismatched,
+  place-is,
+  place-small,
+  fits-subject,
+  fits-san,
+  bytes-subject,
+  bytes-san,
+  place-subject,
+  place-san,
+  small-witness,
+  shown-refused,
+  shown-broken,
+  shown-mismatched,
+  shown-matched,
+  at-refused,
+  at-broken,
+  at-mismatched,
+  at-matched,
+  witness-bytes,
+  witness-place,
+)
+
+pub ruleset laws = (
+  long-records,
+  long-san,
+  long-subject,
+  long-constraints,
+  valid-absent,
+  valid-counted,
+  valid-not,
+  subject-counted,
+  subject-not,
+  num-refused,
+  num-broken,
+  num-matched,
+  num-mismatched,
+  verdict-is,
+  verdict-small,
+)
+
+pub ruleset refusals = (ref-long, ref-records, ref-san, ref-subject, ref-constraints, ref-none)
+
+pub ruleset outcomes = (out-refused, refused-small, asks-san, asks-constraints, asks-records, asks-san-read, asks-subject, out-broken, broken-small, out-pair, pair-small)

@@ -1,0 +1,62 @@
+-- What the code of the verdict decides step by step: the refusals in their order, and how large the numbers of an outcome are.
+use Prim.Native.Nat.{ℕ, _+_, _≤_, _<_}
+use mathlib.Core.Bool.{Bool, true, false, cond, not, _||_}
+use mathlib.Core.List.{List}
+use lib.ListN.{length}
+use lib.Dec.{T, ltb}
+use Rattle.rules.specs.Numbers.{sanLimit, subjectLimit, constraintsLimit, recordsLimit, inputTooLong, recordsUnreadable, sanUnreadable, subjectUnreadable, constraintsUnreadable}
+use Rattle.rules.specs.Records.{goodRecords}
+use Rattle.rules.specs.declared.Place.{Place}
+use Rattle.rules.specs.declared.Witness.{Witness}
+use Rattle.rules.specs.declared.Verdict.{Verdict}
+use Rattle.rules.specs.declared.Outcome.{Outcome}
+use Rattle.rules.specs.declared.Outcome.the-variants.{Refused, Broken, Matched, Mismatched}
+use Rattle.reading.specs.Strings.{readSan, readSubject, readConstraints}
+use Rattle.entries.specs.Entries.{isSome}
+use Rattle.constrained.specs.Run.{validated}
+
+-- "7 for any of the four inputs"
+unfoldable pub anyLong : List ℕ → List ℕ → List ℕ → List ℕ → Bool
+anyLong references san subject constraints =
+    ltb recordsLimit (length references)
+    || ltb sanLimit (length san)
+    || ltb subjectLimit (length subject)
+    || ltb constraintsLimit (length constraints)
+
+unfoldable pub subjectRead : List ℕ → Bool
+subjectRead s = isSome (readSubject s)
+
+-- the refusal that comes first, "7 .., then 6, 3, 4, 5", or 0 where all four inputs are read
+unfoldable pub refusalOf : List ℕ → List ℕ → List ℕ → List ℕ → ℕ
+refusalOf references san subject constraints =
+    cond (anyLong references san subject constraints) inputTooLong
+    (cond (not (goodRecords references)) recordsUnreadable
+    (cond (not (validated readSan san)) sanUnreadable
+    (cond (not (subjectRead subject)) subjectUnreadable
+    (cond (not (validated readConstraints constraints)) constraintsUnreadable 0))))
+
+-- the numbers of a witness: its text lies in its string, and all of them are small
+pub record SmallWitness (san subject : List ℕ) (w : Witness) : Type 0 where
+  pub reference-small : w .reference ≤ recordsLimit
+  pub presented-small : w .presented ≤ sanLimit
+  pub start-small : w .element .start ≤ sanLimit
+  pub length-small : w .element .length ≤ sanLimit
+  pub text-small : w .text .start + w .text .length ≤ sanLimit
+  pub text-fits : w .text .start + w .text .length ≤ length (cond (w .subject) subject san)
+
+unfoldable pub Small : List ℕ → List ℕ → Outcome → Type 0
+Small san subject (Refused n) = n ≤ sanLimit
+Small san subject (Broken i) = i ≤ sanLimit
+Small san subject (Matched w) = SmallWitness san subject w
+Small san subject Mismatched = T true
+
+pub record SmallNumbers (v : Verdict) : Type 0 where
+  pub answer-small : v .answer ≤ sanLimit
+  pub reference-small : v .reference ≤ sanLimit
+  pub presented-small : v .presented ≤ sanLimit
+  pub start-small : v .start ≤ sanLimit
+  pub length-small : v .length ≤ sanLimit
+
+pub record SmallPlace (p : Place) : Type 0 where
+  pub start-small : p .start ≤ sanLimit
+  pub length-small : p .length ≤ sanLimit

@@ -1,0 +1,250 @@
+// The verdict on a certificate: how it ends, its five numbers, and the witness's text as a part of the certificate's own bytes.
+use constrained::Broken;
+use constrained::first_broken;
+use pairs::first_pair;
+use records::good_records;
+use rules::CONSTRAINTS_BROKEN;
+use rules::CONSTRAINTS_LIMIT;
+use rules::CONSTRAINTS_UNREADABLE;
+use rules::INPUT_TOO_LONG;
+use rules::MATCH;
+use rules::MISMATCH;
+use rules::Outcome;
+use rules::Place;
+use rules::RECORDS_LIMIT;
+use rules::RECORDS_UNREADABLE;
+use rules::SAN_LIMIT;
+use rules::SAN_UNREADABLE;
+use rules::SUBJECT_LIMIT;
+use rules::SUBJECT_UNREADABLE;
+use rules::Verdict;
+use rules::Witness;
+use strings::Count;
+use strings::constraints_count;
+use strings::san_count;
+use strings::subject_count;
+ghost use Prim.Native.Nat.{_≤_};
+ghost use mathlib.Core.Path.{_≡_};
+ghost use Rattle.rules.specs.Seen.{seenRecords};
+ghost use Rattle.rules.specs.Verdict.{outcomeOf, answered, numbersOf, verdictOf, witnessPart, witnessText, witnessPlace};
+ghost use Rattle.reading.specs.Strings.{readSan, readConstraints};
+ghost use Rattle.reading.specs.Views.{seenSan, seenSubject, seenConstraints};
+ghost use Rattle.constrained.specs.Run.{validated};
+ghost use Rattle.verdict.specs.Judging.{anyLong, subjectRead, refusalOf, SmallWitness, Small, SmallNumbers, SmallPlace};
+
+// "Longest inputs, in bytes: SAN 16,384; subject 4,096; constraints 16,384; references 5,120. One byte more is answer 7."
+fn any_long(references: &[u8], san: &[u8], subject: &[u8], constraints: &[u8]) -> bool
+    ensures { λ r. ⌜ r ≡ anyLong (now (references .entry)) (now (san .entry)) (now (subject .entry)) (now (constraints .entry)) ⌝ }
+{
+    if RECORDS_LIMIT < references.len() {
+        return true;
+    }
+    if SAN_LIMIT < san.len() {
+        return true;
+    }
+    if SUBJECT_LIMIT < subject.len() {
+        return true;
+    }
+    CONSTRAINTS_LIMIT < constraints.len()
+}
+
+// Whether the SAN is absent or readable.
+fn san_read(s: &[u8]) -> bool
+    ensures { λ r. ⌜ r ≡ validated readSan (now (s .entry)) ⌝ }
+{
+    if s.len() == 0 {
+        return true;
+    }
+    let c = san_count(s);
+    match c {
+        Count::Of(_) => true,
+        Count::Unreadable => false,
+    }
+}
+
+// Whether the subject is readable. "It is never absent".
+fn subject_read(s: &[u8]) -> bool
+    ensures { λ r. ⌜ r ≡ subjectRead (now (s .entry)) ⌝ }
+{
+    let c = subject_count(s);
+    match c {
+        Count::Of(_) => true,
+        Count::Unreadable => false,
+    }
+}
+
+// Whether the constraints are absent or readable.
+fn constraints_read(s: &[u8]) -> bool
+    ensures { λ r. ⌜ r ≡ validated readConstraints (now (s .entry)) ⌝ }
+{
+    if s.len() == 0 {
+        return true;
+    }
+    let c = constraints_count(s);
+    match c {
+        Count::Of(_) => true,
+        Count::Unreadable => false,
+    }
+}
+
+// "Order for a verdict: 7 for any of the four inputs, then 6, 3, 4, 5": the first that applies, or 0. Each input is validated
+// here, once.
+fn refusal(references: &[u8], san: &[u8], subject: &[u8], constraints: &[u8]) -> usize
+    ensures { λ r. ⌜ r ≡ refusalOf (now (references .entry)) (now (san .entry)) (now (subject .entry)) (now (constraints .entry)) ⌝ }
+{
+    let long = any_long(references, san, subject, constraints);
+    if long {
+        return INPUT_TOO_LONG;
+    }
+    let good = good_records(references);
+    if !good {
+        return RECORDS_UNREADABLE;
+    }
+    let read = san_read(san);
+    if !read {
+        return SAN_UNREADABLE;
+    }
+    let read = subject_read(subject);
+    if !read {
+        return SUBJECT_UNREADABLE;
+    }
+    let read = constraints_read(constraints);
+    if !read {
+        return CONSTRAINTS_UNREADABLE;
+    }
+    0
+}
+
+// How the verdict ends: the refusals, then the constraints, "even if another name would match", then the first pair.
+pub fn outcome(san: &[u8], subject: &[u8], constraints: &[u8], references: &[u8]) -> Outcome
+    ensures { λ r. ⌜ (r ≡ outcomeOf (seenRecords (now (references .entry))) (seenSan (now (san .entry))) (seenSubject (now (subject .entry))) (seenConstraints (now (constraints .entry))))
+        × Small (now (san .entry)) (now (subject .entry)) r ⌝ }
+{
+    let n = refusal(references, san, subject, constraints);
+    if n != 0 {
+        return Outcome::Refused(n);
+    }
+    let b = first_broken(san, constraints);
+    match b {
+        Broken::At(i) => Outcome::Broken(i),
+        Broken::Nothing => first_pair(references, san, subject),
+    }
+}
+
+// An answer and a presented index, with zeros beside them.
+fn answer(answer: usize, presented: usize) -> Verdict
+    ensures { λ r. ⌜ r ≡ answered answer presented ⌝ }
+{
+    Verdict {
+        answer: answer,
+        reference: 0,
+        presented: presented,
+        start: 0,
+        length: 0,
+    }
+}
+
+// The five numbers of an outcome.
+fn numbers(o: Outcome) -> Verdict
+    ensures { λ r. ⌜ r ≡ numbersOf o ⌝ }
+{
+    match o {
+        Outcome::Refused(n) => answer(n, 0),
+        Outcome::Broken(i) => answer(CONSTRAINTS_BROKEN, i),
+        Outcome::Matched(w) => {
+            let place = w.element;
+            Verdict {
+                answer: MATCH,
+                reference: w.reference,
+                presented: w.presented,
+                start: place.start,
+                length: place.length,
+            }
+        }
+        Outcome::Mismatched => answer(MISMATCH, 0),
+    }
+}
+
+// "A verdict is five numbers: answer, reference index, presented index, start, length."
+pub fn verdict(san: &[u8], subject: &[u8], constraints: &[u8], references: &[u8]) -> Verdict
+    ensures { λ r. ⌜ (r ≡ verdictOf (seenRecords (now (references .entry))) (seenSan (now (san .entry))) (seenSubject (now (subject .entry))) (seenConstraints (now (constraints .entry))))
+        × SmallNumbers r ⌝ }
+{
+    let o = outcome(san, subject, constraints, references);
+    numbers(o)
+}
+
+// Where the witness's text lies in its string; zeros on any answer but 0.
+fn text_of(o: Outcome) -> Place
+    ensures { λ r. ⌜ r ≡ witnessPart o ⌝ }
+{
+    match o {
+        Outcome::Matched(w) => w.text,
+        Outcome::Refused(_) => Place {
+            start: 0,
+            length: 0,
+        },
+        Outcome::Broken(_) => Place {
+            start: 0,
+            length: 0,
+        },
+        Outcome::Mismatched => Place {
+            start: 0,
+            length: 0,
+        },
+    }
+}
+
+// Where the text of a verdict's witness lies, for callers that cannot be handed a part of a slice.
+pub fn text_place(san: &[u8], subject: &[u8], constraints: &[u8], references: &[u8]) -> Place
+    ensures { λ r. ⌜ (r ≡ witnessPart (outcomeOf (seenRecords (now (references .entry))) (seenSan (now (san .entry))) (seenSubject (now (subject .entry))) (seenConstraints (now (constraints .entry)))))
+        × SmallPlace r ⌝ }
+{
+    let o = outcome(san, subject, constraints, references);
+    text_of(o)
+}
+
+// A witness's text, as a part of the string that it lies in.
+fn text_in<'a>(san: &'a [u8], subject: &'a [u8], w: Witness) -> &'a [u8]
+    requires { ⌜ SmallWitness (now san) (now subject) w ⌝ }
+    ensures bytes { λ r. ⌜ now r ≡ witnessText (now (san .entry)) (now (subject .entry)) (Outcome.Matched w) ⌝ }
+    ensures place { λ r. ⌜ r .ptr ≡ witnessPlace (san .entry .ptr) (subject .entry .ptr) (Outcome.Matched w) ⌝ }
+{
+    let text = w.text;
+    let start = text.start;
+    let end = start + text.length;
+    let in_subject = w.subject;
+    if in_subject {
+        return &subject[start..end];
+    }
+    &san[start..end]
+}
+
+// The text of an outcome: "On any answer but 0 that part is empty, at the start of the SAN."
+fn shown<'a>(san: &'a [u8], subject: &'a [u8], o: Outcome) -> &'a [u8]
+    requires { ⌜ Small (now san) (now subject) o ⌝ }
+    ensures bytes { λ r. ⌜ now r ≡ witnessText (now (san .entry)) (now (subject .entry)) o ⌝ }
+    ensures place { λ r. ⌜ r .ptr ≡ witnessPlace (san .entry .ptr) (subject .entry .ptr) o ⌝ }
+{
+    match o {
+        Outcome::Matched(w) => text_in(san, subject, w),
+        Outcome::Refused(_) => &san[..0],
+        Outcome::Broken(_) => &san[..0],
+        Outcome::Mismatched => &san[..0],
+    }
+}
+
+// "The witness's text (the content of the dNSName or URI, the IA5String of the SRVName, the CN's value) is handed back as a part
+// of the certificate's own bytes."
+pub fn witness<'a>(
+    san: &'a [u8],
+    subject: &'a [u8],
+    constraints: &[u8],
+    references: &[u8],
+) -> &'a [u8]
+    ensures bytes { λ r. ⌜ now r ≡ witnessText (now (san .entry)) (now (subject .entry)) (outcomeOf (seenRecords (now (references .entry))) (seenSan (now (san .entry))) (seenSubject (now (subject .entry))) (seenConstraints (now (constraints .entry)))) ⌝ }
+    ensures place { λ r. ⌜ r .ptr ≡ witnessPlace (san .entry .ptr) (subject .entry .ptr) (outcomeOf (seenRecords (now (references .entry))) (seenSan (now (san .entry))) (seenSubject (now (subject .entry))) (seenConstraints (now (constraints .entry)))) ⌝ }
+{
+    let o = outcome(san, subject, constraints, references);
+    shown(san, subject, o)
+}
