@@ -1,0 +1,166 @@
+// What a C program calls: include/beckethand.h says each call in words. A slice is a pointer and a length, and each function on
+// the four slices answers one number of the verdict.
+ghost use Prim.Native.Nat.{_≤_};
+ghost use mathlib.Core.Path.{_≡_};
+ghost use lib.ListN.{length};
+ghost use Rattle.rules.specs.Seen.{seenRecords};
+ghost use Rattle.rules.specs.Records.{shown};
+ghost use Rattle.rules.specs.Verdict.{outcomeOf, verdictOf, witnessPart};
+ghost use Rattle.rules.specs.Listing.{listedOf, tableAfter};
+ghost use Rattle.reading.specs.Views.{seenSan, seenSubject, seenConstraints};
+ghost use Rattle.listing.specs.Listing.{refusalOf, seenRows};
+
+// A number that fits.
+fn narrow(n: usize) -> u32
+    requires { ⌜ n ≤ 16384 ⌝ }
+    ensures { λ r. ⌜ r ≡ n ⌝ }
+{
+    n as u32
+}
+
+// The verdict's answer.
+#[no_mangle]
+pub extern "C" fn beckethand_answer(
+    san: &[u8],
+    subject: &[u8],
+    constraints: &[u8],
+    references: &[u8],
+) -> u32
+    ensures { λ r. ⌜ r ≡ verdictOf (seenRecords (now (references .entry))) (seenSan (now (san .entry))) (seenSubject (now (subject .entry))) (seenConstraints (now (constraints .entry))) .answer ⌝ }
+{
+    let v = verdict::verdict(san, subject, constraints, references);
+    narrow(v.answer)
+}
+
+// The index of the reference that matches.
+#[no_mangle]
+pub extern "C" fn beckethand_reference(
+    san: &[u8],
+    subject: &[u8],
+    constraints: &[u8],
+    references: &[u8],
+) -> u32
+    ensures { λ r. ⌜ r ≡ verdictOf (seenRecords (now (references .entry))) (seenSan (now (san .entry))) (seenSubject (now (subject .entry))) (seenConstraints (now (constraints .entry))) .reference ⌝ }
+{
+    let v = verdict::verdict(san, subject, constraints, references);
+    narrow(v.reference)
+}
+
+// The index of the presented identifier that it matches, or of the first SRVName that breaks the constraints.
+#[no_mangle]
+pub extern "C" fn beckethand_presented(
+    san: &[u8],
+    subject: &[u8],
+    constraints: &[u8],
+    references: &[u8],
+) -> u32
+    ensures { λ r. ⌜ r ≡ verdictOf (seenRecords (now (references .entry))) (seenSan (now (san .entry))) (seenSubject (now (subject .entry))) (seenConstraints (now (constraints .entry))) .presented ⌝ }
+{
+    let v = verdict::verdict(san, subject, constraints, references);
+    narrow(v.presented)
+}
+
+// Where the identifier's DER element starts.
+#[no_mangle]
+pub extern "C" fn beckethand_start(
+    san: &[u8],
+    subject: &[u8],
+    constraints: &[u8],
+    references: &[u8],
+) -> u32
+    ensures { λ r. ⌜ r ≡ verdictOf (seenRecords (now (references .entry))) (seenSan (now (san .entry))) (seenSubject (now (subject .entry))) (seenConstraints (now (constraints .entry))) .start ⌝ }
+{
+    let v = verdict::verdict(san, subject, constraints, references);
+    narrow(v.start)
+}
+
+// How long that element is.
+#[no_mangle]
+pub extern "C" fn beckethand_length(
+    san: &[u8],
+    subject: &[u8],
+    constraints: &[u8],
+    references: &[u8],
+) -> u32
+    ensures { λ r. ⌜ r ≡ verdictOf (seenRecords (now (references .entry))) (seenSan (now (san .entry))) (seenSubject (now (subject .entry))) (seenConstraints (now (constraints .entry))) .length ⌝ }
+{
+    let v = verdict::verdict(san, subject, constraints, references);
+    narrow(v.length)
+}
+
+// Where the witness's text starts.
+#[no_mangle]
+pub extern "C" fn beckethand_text_start(
+    san: &[u8],
+    subject: &[u8],
+    constraints: &[u8],
+    references: &[u8],
+) -> u32
+    ensures { λ r. ⌜ r ≡ witnessPart (outcomeOf (seenRecords (now (references .entry))) (seenSan (now (san .entry))) (seenSubject (now (subject .entry))) (seenConstraints (now (constraints .entry)))) .start ⌝ }
+{
+    let p = verdict::text_place(san, subject, constraints, references);
+    narrow(p.start)
+}
+
+// How long it is.
+#[no_mangle]
+pub extern "C" fn beckethand_text_length(
+    san: &[u8],
+    subject: &[u8],
+    constraints: &[u8],
+    references: &[u8],
+) -> u32
+    ensures { λ r. ⌜ r ≡ witnessPart (outcomeOf (seenRecords (now (references .entry))) (seenSan (now (san .entry))) (seenSubject (now (subject .entry))) (seenConstraints (now (constraints .entry)))) .length ⌝ }
+{
+    let p = verdict::text_place(san, subject, constraints, references);
+    narrow(p.length)
+}
+
+// The record reader's answer.
+#[no_mangle]
+pub extern "C" fn beckethand_record_answer(references: &[u8], index: usize) -> u32
+    ensures { λ r. ⌜ r ≡ shown (now (references .entry)) index .answer ⌝ }
+{
+    let s = records::show(references, index);
+    narrow(s.answer)
+}
+
+// The kind of the record at an index.
+#[no_mangle]
+pub extern "C" fn beckethand_record_kind(references: &[u8], index: usize) -> u32
+    ensures { λ r. ⌜ r ≡ shown (now (references .entry)) index .kind ⌝ }
+{
+    let s = records::show(references, index);
+    narrow(s.kind)
+}
+
+// The length of its service.
+#[no_mangle]
+pub extern "C" fn beckethand_record_service_length(references: &[u8], index: usize) -> u32
+    ensures { λ r. ⌜ r ≡ shown (now (references .entry)) index .service ⌝ }
+{
+    let s = records::show(references, index);
+    narrow(s.service)
+}
+
+// The length of its domain.
+#[no_mangle]
+pub extern "C" fn beckethand_record_domain_length(references: &[u8], index: usize) -> u32
+    ensures { λ r. ⌜ r ≡ shown (now (references .entry)) index .domain ⌝ }
+{
+    let s = records::show(references, index);
+    narrow(s.domain)
+}
+
+// The listing of one of the three certificate strings: `which` is 0 for the SAN, 1 for the subject, else the constraints.
+#[no_mangle]
+pub extern "C" fn beckethand_list(
+    table: &mut [rules::Row],
+    bytes: &[u8],
+    which: usize,
+) -> rules::Listed
+    ensures { λ r. ⌜ (r ≡ listedOf (refusalOf which) (seenRows which (now (bytes .entry))) (length (now (table .entry))))
+        × (now (table .exit) ≡ tableAfter (seenRows which (now (bytes .entry))) (now (table .entry))) ⌝ }
+{
+    listing::list(table, bytes, which)
+}
