@@ -1,0 +1,336 @@
+//! Compares this implementation with the archive of the other one.
+//!
+//! `compare --cases N --seed S` runs the desk examples, the boundary table and
+//! N generated cases, and ends with 1 if an answer or a kind of match never
+//! occurred. With `--first K` it runs the N cases from number K on and nothing
+//! else. `compare --soak` runs cases under fresh seeds until it is stopped. All
+//! end with 1 at the first difference.
+
+use second::archive::{self, CListed, Inputs};
+use second::generate::{self, boundary, Case, Random};
+use second::records::RECORD;
+use second::{examples, judge, list, record, Outcome, Row, Which};
+use std::env;
+use std::process::ExitCode;
+use std::time::{Instant, SystemTime, UNIX_EPOCH};
+
+/// Cases under one seed of a soak.
+const SOAK_ROUND: u64 = 100_000;
+
+fn main() -> ExitCode {
+    let arguments: Vec<String> = env::args().skip(1).collect();
+    let Some(run) = Run::parse(&arguments) else {
+        eprintln!("usage: compare --cases N --seed S [--first K] | compare --soak");
+        return ExitCode::from(2);
+    };
+    let result = match run {
+        Run::Fixed { cases, seed } => fixed(cases, seed),
+        Run::Again { cases, seed, first } => {
+            generated(cases, seed, first).map(|tally| tally.print())
+        }
+        Run::Soak => soak(),
+    };
+    match result {
+        Ok(()) => ExitCode::SUCCESS,
+        Err(reason) => {
+            println!("{reason}");
+            ExitCode::FAILURE
+        }
+    }
+}
+
+/// What the arguments ask for.
+enum Run {
+    Fixed { cases: u64, seed: u64 },
+    Again { cases: u64, seed: u64, first: u64 },
+    Soak,
+}
+
+impl Run {
+    fn parse(arguments: &[String]) -> Option<Self> {
+        if arguments == ["--soak"] {
+            return Some(Run::Soak);
+        }
+        let (mut cases, mut seed, mut first) = (None, None, None);
+        for pair in arguments.chunks(2) {
+            let [name, value] = pair else { return None };
+            let number = match name.as_str() {
+                "--cases" => &mut cases,
+                "--seed" => &mut seed,
+                "--first" => &mut first,
+                _ => return None,
+            };
+            *number = Some(value.parse().ok()?);
+        }
+        let (cases, seed) = (cases?, seed?);
+        Some(match first {
+            None => Run::Fixed { cases, seed },
+            Some(first) => Run::Again { cases, seed, first },
+        })
+    }
+}
+
+/// The examples, the boundary table and the generated cases of one seed.
+fn fixed(cases: u64, seed: u64) -> Result<(), String> {
+    let started = Instant::now();
+    tables()?;
+    let tally = generated(cases, seed, 0)?;
+    tally.print();
+    let seconds = started.elapsed().as_secs_f64();
+    println!("{cases} cases of seed {seed} alike, {seconds:.1} s in all");
+    match tally.missing() {
+        None => Ok(()),
+        Some(missing) => Err(format!("never occurred: {missing}")),
+    }
+}
+
+/// The desk examples and the boundary table.
+fn tables() -> Result<(), String> {
+    let mut tally = Tally::default();
+    let mut old_rows = Random::new(0, 0);
+    for example in examples::table() {
+        compare(&example.case, &mut old_rows, &mut tally)
+            .map_err(|difference| format!("example {}\n{difference}", example.number))?;
+    }
+    let mut lines = 0;
+    let mut result = Ok(());
+    boundary::each(&mut |(what, case)| {
+        if result.is_ok() {
+            result = compare(&case, &mut old_rows, &mut tally)
+                .map_err(|difference| format!("boundary line {lines}: {what}\n{difference}"));
+            lines += 1;
+        }
+    });
+    println!(
+        "{} desk examples and {lines} boundary lines",
+        examples::table().len()
+    );
+    result
+}
+
+/// The generated cases of one seed.
+fn generated(cases: u64, seed: u64, first: u64) -> Result<Tally, String> {
+    let mut tally = Tally::default();
+    for number in first..first.saturating_add(cases) {
+        let case = generate::case(seed, number);
+        let mut old_rows = Random::new(!seed, number);
+        compare(&case, &mut old_rows, &mut tally)
+            .map_err(|difference| format!("seed {seed}, case {number}\n{difference}"))?;
+    }
+    Ok(tally)
+}
+
+/// Rounds under seeds from the clock, until a difference or the end of the
+/// process.
+fn soak() -> Result<(), String> {
+    loop {
+        let now = SystemTime::now().duration_since(UNIX_EPOCH);
+        let seed = now.unwrap_or_default().as_nanos() as u64;
+        println!("seed {seed}, {SOAK_ROUND} cases");
+        generated(SOAK_ROUND, seed, 0)?;
+    }
+}
+
+/// One case whose inputs lie in allocations of exactly their size.
+struct Exact {
+    inputs: [Box<[u8]>; 4],
+}
+
+impl Exact {
+    fn new(case: &Case) -> Self {
+        let inputs = [
+            &case.san,
+            &case.subject,
+            &case.constraints,
+            &case.references,
+        ];
+        Exact {
+            inputs: inputs.map(|input| input.as_slice().into()),
+        }
+    }
+
+    fn inputs(&self) -> Inputs<'_> {
+        let [san, subject, constraints, references] = &self.inputs;
+        Inputs {
+            san,
+            subject,
+            constraints,
+            references,
+        }
+    }
+}
+
+/// Compares everything that both implementations tell of one case.
+fn compare(case: &Case, old_rows: &mut Random, tally: &mut Tally) -> Result<(), String> {
+    let exact = Exact::new(case);
+    let inputs = exact.inputs();
+    let ours = judge(
+        inputs.san,
+        inputs.subject,
+        inputs.constraints,
+        inputs.references,
+    );
+    equal("verdict", inputs, &ours, &archive::judge(inputs))?;
+    tally.count_verdict(case, &ours);
+    let strings = [inputs.san, inputs.subject, inputs.constraints];
+    for (which, bytes) in Which::ALL.into_iter().zip(strings) {
+        compare_listing(inputs, bytes, which, old_rows, tally)?;
+    }
+    for index in (0..inputs.references.len() / RECORD + 2).chain([usize::MAX]) {
+        let ours = record(inputs.references, index);
+        equal(
+            &format!("record {index}"),
+            inputs,
+            &ours,
+            &archive::record(inputs.references, index),
+        )?;
+    }
+    Ok(())
+}
+
+/// Lists one string into tables that are exactly long enough, one row too
+/// short, and longer.
+fn compare_listing(
+    inputs: Inputs,
+    bytes: &[u8],
+    which: Which,
+    old_rows: &mut Random,
+    tally: &mut Tally,
+) -> Result<(), String> {
+    let count = list(bytes, which).rows.len();
+    let mut lent = vec![count, count + 1 + old_rows.below(5)];
+    lent.extend(count.checked_sub(1));
+    for lent in lent {
+        let old: Box<[Row]> = (0..lent).map(|_| old_row(old_rows)).collect();
+        let (mut our_table, mut their_table) = (old.clone(), old);
+        let listed = second::list_into(&mut our_table, bytes, which);
+        tally.answers[listed.answer as usize] +=
+            u64::from(listed.answer == second::answer::TABLE_TOO_SHORT);
+        let ours = CListed {
+            answer: listed.answer as usize,
+            count: listed.count,
+        };
+        let theirs = archive::list_into(&mut their_table, bytes, number(which, old_rows));
+        let what = format!("listing of {which:?} with {lent} rows lent");
+        equal(&what, inputs, &ours, &theirs)?;
+        equal(
+            &format!("{what}, table after it"),
+            inputs,
+            &our_table,
+            &their_table,
+        )?;
+    }
+    Ok(())
+}
+
+/// A number that asks the archive for this string.
+fn number(which: Which, random: &mut Random) -> usize {
+    match which {
+        Which::San => 0,
+        Which::Subject => 1,
+        Which::Constraints => *random.pick(&[2, 2, 3, 256, usize::MAX]),
+    }
+}
+
+/// A row left from the last certificate.
+fn old_row(random: &mut Random) -> Row {
+    let mut number = || random.bits() as usize;
+    Row {
+        kind: number(),
+        start: number(),
+        length: number(),
+        group: number(),
+    }
+}
+
+/// The inputs and both results, where they differ.
+fn equal<T: PartialEq + std::fmt::Debug>(
+    what: &str,
+    inputs: Inputs,
+    ours: &T,
+    theirs: &T,
+) -> Result<(), String> {
+    if ours == theirs {
+        return Ok(());
+    }
+    let lines = [
+        format!("DIFFERENT: {what}"),
+        format!("san {}", hex(inputs.san)),
+        format!("subject {}", hex(inputs.subject)),
+        format!("constraints {}", hex(inputs.constraints)),
+        format!("references {}", hex(inputs.references)),
+        format!("this    {ours:?}"),
+        format!("archive {theirs:?}"),
+    ];
+    Err(lines.join("\n"))
+}
+
+fn hex(bytes: &[u8]) -> String {
+    bytes.iter().map(|byte| format!("{byte:02X}")).collect()
+}
+
+/// How often each answer and each kind of match occurred.
+#[derive(Default)]
+struct Tally {
+    answers: [u64; 9],
+    matches: [u64; MATCHES.len()],
+}
+
+const MATCHES: [&str; 6] = [
+    "DNS exact",
+    "DNS wildcard",
+    "SRV",
+    "URI",
+    "CN exact",
+    "CN wildcard",
+];
+
+impl Tally {
+    fn count_verdict(&mut self, case: &Case, outcome: &Outcome) {
+        self.answers[outcome.verdict.answer as usize] += 1;
+        if let Some(kind) = match_kind(case, outcome) {
+            self.matches[kind] += 1;
+        }
+    }
+
+    fn lines(&self) -> Vec<(String, u64)> {
+        let answers = self.answers.iter().enumerate();
+        let answers = answers.map(|(answer, &count)| (format!("answer {answer}"), count));
+        let matches = MATCHES.iter().zip(self.matches);
+        let matches = matches.map(|(name, count)| (format!("match by {name}"), count));
+        answers.chain(matches).collect()
+    }
+
+    fn print(&self) {
+        for (name, count) in self.lines() {
+            println!("{name:24}{count:10}");
+        }
+    }
+
+    /// What did not occur, if anything did not.
+    fn missing(&self) -> Option<String> {
+        let missing: Vec<String> = self
+            .lines()
+            .into_iter()
+            .filter(|(_, count)| *count == 0)
+            .map(|(name, _)| name)
+            .collect();
+        (!missing.is_empty()).then(|| missing.join(", "))
+    }
+}
+
+/// The place in `MATCHES` of a match.
+fn match_kind(case: &Case, outcome: &Outcome) -> Option<usize> {
+    if outcome.verdict.answer != second::answer::MATCH {
+        return None;
+    }
+    let kind = case.references[outcome.verdict.reference as usize * RECORD];
+    let holder = if kind == 4 { &case.subject } else { &case.san };
+    let wildcard = usize::from(holder[outcome.text.start as usize] == b'*');
+    match kind {
+        1 => Some(wildcard),
+        2 => Some(2),
+        3 => Some(3),
+        _ => Some(4 + wildcard),
+    }
+}

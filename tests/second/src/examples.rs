@@ -1,0 +1,258 @@
+//! The desk examples and the old faults of document 01, as one numbered table.
+//! P1 to P16 are the document's numbers; D1 on are the desk examples without a
+//! number, in order; F1 to F5 the old faults, in order.
+
+use crate::generate::Case;
+use crate::records::kind::{CN, DNS, SRV};
+use crate::tree::{
+    common_name, constraints, dns_name, email, rdn, record, san, srv_name, subject, subtree, Node,
+};
+
+/// One line of the table: inputs, and the five numbers of the verdict.
+pub struct Example {
+    pub number: String,
+    pub case: Case,
+    pub verdict: [u32; 5],
+}
+
+/// "S is `30 05 82 03 61 2E 62`"
+pub const S: [u8; 7] = [0x30, 0x05, 0x82, 0x03, 0x61, 0x2E, 0x62];
+
+/// "J is `30 0E 31 0C 30 0A 06 03 55 04 03 0C 03 61 2E 62`"
+pub const J: [u8; 16] = [
+    0x30, 0x0E, 0x31, 0x0C, 0x30, 0x0A, 0x06, 0x03, 0x55, 0x04, 0x03, 0x0C, 0x03, 0x61, 0x2E, 0x62,
+];
+
+/// RFC 4985, section 4: restriction, name, and whether the name is inside.
+const RFC_4985: [(&str, &str, bool); 11] = [
+    ("example.com", "_mail.example.com", true),
+    ("example.com", "_ntp.example.com", true),
+    ("example.com", "_mail.1.example.com", true),
+    ("_mail", "_mail.example.com", true),
+    ("_mail", "_mail.1example.com", true),
+    ("_mail.example.com", "_mail.example.com", true),
+    ("_mail.example.com", "_mail.1.example.com", true),
+    ("example.com", "_mail.1example.com", false),
+    ("_mail", "_ntp.example.com", false),
+    ("_mail.example.com", "_mail.1example.com", false),
+    ("_mail.example.com", "_ntp.example.com", false),
+];
+
+/// The whole table.
+pub fn table() -> Vec<Example> {
+    let mut table = restrictions();
+    table.extend(wildcards());
+    table.extend(written_out());
+    table.extend(sizes());
+    table.extend(old_faults());
+    table
+}
+
+fn example(number: &str, case: Case, verdict: [u32; 5]) -> Example {
+    Example {
+        number: number.to_string(),
+        case,
+        verdict,
+    }
+}
+
+/// "Where none is named, the subject is J and constraints are absent."
+fn case(san: Vec<u8>, references: Vec<u8>) -> Case {
+    Case {
+        san,
+        subject: J.to_vec(),
+        constraints: Vec::new(),
+        references,
+    }
+}
+
+/// A verdict with zeros after its answer.
+fn bare(answer: u32) -> [u32; 5] {
+    [answer, 0, 0, 0, 0]
+}
+
+/// The reference that an SRVName's text asks for.
+fn srv_reference(name: &str) -> Vec<u8> {
+    let (service, domain) = name[1..].split_once('.').expect("a service and a domain");
+    record(SRV, service.as_bytes(), domain.as_bytes())
+}
+
+/// A SAN of one SRVName under one permitted restriction.
+fn restricted(restriction: &str, name: &str) -> Case {
+    let permitted = vec![subtree(srv_name(restriction.as_bytes()))];
+    Case {
+        constraints: constraints(permitted, Vec::new()).write(),
+        ..case(
+            san(vec![srv_name(name.as_bytes())]).write(),
+            srv_reference(name),
+        )
+    }
+}
+
+/// P1 to P11.
+fn restrictions() -> Vec<Example> {
+    let numbered = RFC_4985.iter().enumerate();
+    let lines = numbered.map(|(index, (restriction, name, inside))| {
+        let case = restricted(restriction, name);
+        let length = case.san.len() as u32 - 2;
+        let verdict = if *inside {
+            [0, 0, 0, 2, length]
+        } else {
+            bare(2)
+        };
+        example(&format!("P{}", index + 1), case, verdict)
+    });
+    lines.collect()
+}
+
+/// A SAN of one dNSName and one DNS reference.
+fn dns(number: &str, presented: &str, reference: &str, matches: bool) -> Example {
+    let san = san(vec![dns_name(presented.as_bytes())]).write();
+    let length = presented.len() as u32 + 2;
+    let verdict = if matches {
+        [0, 0, 0, 2, length]
+    } else {
+        bare(1)
+    };
+    example(
+        number,
+        case(san, record(DNS, b"", reference.as_bytes())),
+        verdict,
+    )
+}
+
+/// P12 to P15.
+fn wildcards() -> Vec<Example> {
+    vec![
+        dns("P12", "*.branch.example", "desk.branch.example", true),
+        dns("P13", "*.branch.example", "x.desk.branch.example", false),
+        dns("P14", "*.branch.example", "branch.example", false),
+        dns("P15", "bar.*.example", "bar.foo.example", false),
+    ]
+}
+
+const SRV_SAN: [u8; 22] = [
+    0x30, 0x14, 0xA0, 0x12, 0x06, 0x08, 0x2B, 0x06, 0x01, 0x05, 0x05, 0x07, 0x08, 0x07, 0xA0, 0x06,
+    0x16, 0x04, 0x5F, 0x6D, 0x2E, 0x62,
+];
+
+const SRV_CONSTRAINTS: [u8; 24] = [
+    0x30, 0x16, 0xA0, 0x14, 0x30, 0x12, 0xA0, 0x10, 0x06, 0x08, 0x2B, 0x06, 0x01, 0x05, 0x05, 0x07,
+    0x08, 0x07, 0xA0, 0x04, 0x16, 0x02, 0x5F, 0x6D,
+];
+
+/// P16, and the examples that the document writes out in bytes.
+fn written_out() -> Vec<Example> {
+    let cn = record(CN, b"", b"a.b");
+    let dns = record(DNS, b"", b"a.b");
+    let srv = case(SRV_SAN.to_vec(), record(SRV, b"m", b"b"));
+    let kept = Case {
+        constraints: SRV_CONSTRAINTS.to_vec(),
+        ..srv.clone()
+    };
+    let mut broken = kept.clone();
+    broken.constraints[23] = 0x6E;
+    let long_form = vec![0x30, 0x81, 0x05, 0x82, 0x03, 0x61, 0x2E, 0x62];
+    vec![
+        example(
+            "P16",
+            case(S.to_vec(), record(DNS, b"", b"A.B")),
+            [0, 0, 0, 2, 5],
+        ),
+        example("D1", case(Vec::new(), cn.clone()), [0, 0, 0, 4, 12]),
+        example("D2", case(vec![0x30, 0x02, 0x82, 0x00], cn), bare(1)),
+        example("D3", case(long_form, dns.clone()), bare(3)),
+        example("D4", case(vec![0x30, 0x00], dns), bare(3)),
+        example("D5", srv, [0, 0, 0, 2, 20]),
+        example("D6", kept, [0, 0, 0, 2, 20]),
+        example("D7", broken, bare(2)),
+    ]
+}
+
+/// A domain of this many bytes, in labels of at most 50.
+pub fn domain_of(length: usize) -> Vec<u8> {
+    (1..=length)
+        .map(|place| {
+            if place % 50 == 0 && place < length {
+                b'.'
+            } else {
+                b'd'
+            }
+        })
+        .collect()
+}
+
+/// "Labels of 63 and 64 bytes, domains of 253 and 254, 16 and 17 records,
+/// lengths 127/128 and 255/256."
+fn sizes() -> Vec<Example> {
+    let mut table = vec![
+        same_domain("D8: label of 63", &[b'l'; 63], [0, 0, 0, 2, 65]),
+        same_domain("D8: label of 64", &[b'l'; 64], bare(6)),
+        same_domain("D8: domain of 253", &domain_of(253), [0, 0, 0, 4, 256]),
+        same_domain("D8: domain of 254", &domain_of(254), bare(6)),
+    ];
+    for (count, verdict) in [(16, [0, 0, 0, 2, 5]), (17, bare(7))] {
+        let references = record(DNS, b"", b"a.b").repeat(count);
+        table.push(example(
+            &format!("D8: {count} records"),
+            case(S.to_vec(), references),
+            verdict,
+        ));
+    }
+    for (length, start) in [(127, 132), (128, 134), (255, 262), (256, 264)] {
+        let entries = vec![email(&vec![b'e'; length]), dns_name(b"a.b")];
+        let case = case(san(entries).write(), record(DNS, b"", b"a.b"));
+        table.push(example(
+            &format!("D8: length {length}"),
+            case,
+            [0, 0, 1, start, 5],
+        ));
+    }
+    table
+}
+
+/// The same text as presented name and as reference.
+fn same_domain(number: &str, text: &[u8], verdict: [u32; 5]) -> Example {
+    let san = san(vec![dns_name(text)]).write();
+    example(number, case(san, record(DNS, b"", text)), verdict)
+}
+
+/// "Old faults that may not come back", save the last, which is one of the
+/// listing.
+fn old_faults() -> Vec<Example> {
+    let mut faults = vec![example(
+        "F1",
+        restricted("host.branch.example", "_m.1host.branch.example"),
+        bare(2),
+    )];
+    let inside = restricted("host.branch.example", "_m.www.host.branch.example");
+    let length = inside.san.len() as u32 - 2;
+    faults.push(example("F1: inside", inside, [0, 0, 0, 2, length]));
+    let cut = Case {
+        subject: subject(vec![rdn(vec![common_name(0x0C, b"a.b\0.c")])]).write(),
+        ..case(Vec::new(), record(CN, b"", b"a.b"))
+    };
+    faults.push(example("F2", cut, bare(1)));
+    faults.push(example(
+        "F3",
+        excused(vec![dns_name(b"a.b"), srv_name(b"_n.b")]),
+        [2, 0, 1, 0, 0],
+    ));
+    faults.push(example(
+        "F3: no SRV-ID",
+        excused(vec![srv_name(b"a.b"), dns_name(b"a.b")]),
+        bare(2),
+    ));
+    let san = san(vec![dns_name(b"c.d"), dns_name(b"a.b")]).write();
+    let references = [record(DNS, b"", b"a.b"), record(DNS, b"", b"c.d")].concat();
+    faults.push(example("F4", case(san, references), [0, 0, 1, 7, 5]));
+    faults
+}
+
+/// A DNS reference that matches, and constraints that permit only service m.
+fn excused(entries: Vec<Node>) -> Case {
+    Case {
+        constraints: SRV_CONSTRAINTS.to_vec(),
+        ..case(san(entries).write(), record(DNS, b"", b"a.b"))
+    }
+}

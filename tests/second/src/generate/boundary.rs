@@ -1,0 +1,538 @@
+//! A fixed table of cases: every limit, every tag, every small text.
+
+use super::draft::{padded_constraints, padded_san, padded_subject};
+use super::mutate::{nth, size};
+use super::Case;
+use crate::examples::{domain_of, J, S};
+use crate::longest;
+use crate::records::kind::{CN, DNS, SRV, URI};
+use crate::tree::*;
+
+/// A case and what it is a case of.
+pub type Line = (String, Case);
+
+/// Takes the lines of the table one by one.
+type Taker<'t> = &'t mut dyn FnMut(Line);
+
+/// Hands over the whole table, line by line.
+pub fn each(take: Taker) {
+    longest_inputs(take);
+    record_counts(take);
+    name_lengths(take);
+    entry_counts(take);
+    answer_order(take);
+    broken_names(take);
+    sets(take);
+    every_tag(take);
+    every_length(take);
+    every_child(take);
+    every_bit(take);
+    every_byte(take);
+    small_texts(take);
+}
+
+/// S, J and the DNS reference `a.b`.
+fn base() -> Case {
+    let references = record(DNS, b"", b"a.b");
+    Case {
+        san: S.to_vec(),
+        subject: J.to_vec(),
+        constraints: Vec::new(),
+        references,
+    }
+}
+
+/// Each input one byte below its limit, at it, and past it.
+fn longest_inputs(take: Taker) {
+    for more in 0..4 {
+        let what = |input: &str| format!("{input} of its limit - 1 + {more}");
+        let san = padded_san(longest::SAN - 1 + more, b"a.b").write();
+        take((what("SAN"), Case { san, ..base() }));
+        let subject = padded_subject(longest::SUBJECT - 1 + more, b"a.b").write();
+        let references = record(CN, b"", b"a.b");
+        take((
+            what("subject"),
+            Case {
+                san: Vec::new(),
+                subject,
+                references,
+                ..base()
+            },
+        ));
+        let constraints = padded_constraints(longest::CONSTRAINTS - 1 + more).write();
+        take((
+            what("constraints"),
+            Case {
+                constraints,
+                ..base()
+            },
+        ));
+        let mut references = base().references.repeat(17);
+        references.truncate(longest::REFERENCES - 1 + more);
+        take((
+            what("references"),
+            Case {
+                references,
+                ..base()
+            },
+        ));
+    }
+}
+
+/// 0 to 17 records, and totals next to them.
+fn record_counts(take: Taker) {
+    let mut references = Vec::new();
+    for count in 0..=17 {
+        take((
+            format!("{count} records"),
+            Case {
+                references: references.clone(),
+                ..base()
+            },
+        ));
+        references.push(0);
+        take((
+            format!("{count} records and a byte"),
+            Case {
+                references: references.clone(),
+                ..base()
+            },
+        ));
+        references.pop();
+        references.extend(record(DNS, b"", if count == 15 { b"a.b" } else { b"c.d" }));
+    }
+}
+
+/// Texts of every length near a limit, in every role.
+fn name_lengths(take: Taker) {
+    for length in [1, 2, 49, 50, 61, 62, 63, 64, 65, 251, 252, 253, 254, 255] {
+        let label = vec![b'l'; length];
+        for domain in [
+            label.clone(),
+            domain_of(length),
+            [b"x.", label.as_slice()].concat(),
+        ] {
+            for kind in [DNS, SRV, URI, CN] {
+                take(same(kind, b"s", &domain));
+            }
+            take(wildcard(&domain));
+            constrained(b"s", &domain).into_iter().for_each(&mut *take);
+        }
+        take(same(SRV, &label, b"a.b"));
+        take(same(URI, &label, b"a.b"));
+        constrained(&label, b"a.b").into_iter().for_each(&mut *take);
+    }
+}
+
+/// The same name as reference and as presented identifier.
+fn same(kind: u8, service: &[u8], domain: &[u8]) -> Line {
+    let entry = match kind {
+        DNS => dns_name(domain),
+        SRV => srv_name(&[b"_", service, b".", domain].concat()),
+        URI => uri_name(&[service, b"://", domain].concat()),
+        _ => email(b""),
+    };
+    let subject = subject(vec![rdn(vec![common_name(0x13, domain)])]).write();
+    let service = if matches!(kind, SRV | URI) {
+        service
+    } else {
+        b""
+    };
+    let references = record(kind, service, domain);
+    let what = format!(
+        "kind {kind}, lengths {} and {}",
+        service.len(),
+        domain.len()
+    );
+    (
+        what,
+        Case {
+            san: san(vec![entry]).write(),
+            subject,
+            references,
+            ..base()
+        },
+    )
+}
+
+/// A wildcard above the domain, for a reference one label below it.
+fn wildcard(domain: &[u8]) -> Line {
+    let san = san(vec![dns_name(&[b"*.", domain].concat())]).write();
+    let references = record(DNS, b"", &[b"a.", domain].concat());
+    (
+        format!("wildcard, length {}", domain.len()),
+        Case {
+            san,
+            references,
+            ..base()
+        },
+    )
+}
+
+/// The same SRVName as presented identifier, and in each form as permitted and
+/// as excluded subtree.
+fn constrained(service: &[u8], domain: &[u8]) -> Vec<Line> {
+    let full = [b"_", service, b".", domain].concat();
+    let forms = [
+        full.clone(),
+        full[..1 + service.len()].to_vec(),
+        domain.to_vec(),
+    ];
+    let mut lines = Vec::new();
+    for form in forms.iter().filter(|form| !form.is_empty()) {
+        let side = vec![subtree(srv_name(form))];
+        for constraints in [
+            constraints(side.clone(), Vec::new()),
+            constraints(Vec::new(), side),
+        ] {
+            let case = Case {
+                san: san(vec![dns_name(b"a.b"), srv_name(&full)]).write(),
+                constraints: constraints.write(),
+                ..base()
+            };
+            lines.push((
+                format!("subtree of {} bytes for {}", form.len(), full.len()),
+                case,
+            ));
+        }
+    }
+    lines
+}
+
+/// SANs of few entries, of 511 to 513, and of as many as fit.
+fn entry_counts(take: Taker) {
+    for count in [0, 1, 2, 511, 512, 513, 600, 8188, 8189, 8190, 8191] {
+        let entries = vec![dns_name(b""); count];
+        take((
+            format!("{count} entries"),
+            Case {
+                san: san(entries).write(),
+                ..base()
+            },
+        ));
+    }
+}
+
+/// Each input right, unreadable or too long, in all combinations.
+fn answer_order(take: Taker) {
+    let mut broken = vec![base()];
+    broken[0].san = san(vec![dns_name(b"a.b"), srv_name(b"_n.b")]).write();
+    broken[0].constraints = constraints(vec![subtree(srv_name(b"_m"))], Vec::new()).write();
+    for input in 0..4 {
+        for case in broken.clone() {
+            for length in [2, longest::SAN + 1] {
+                let mut worse = case.clone();
+                *field(&mut worse, input) = vec![0x30; length];
+                broken.push(worse);
+            }
+        }
+    }
+    broken
+        .into_iter()
+        .for_each(|case| take(("order of answers".to_string(), case)));
+}
+
+/// All SANs of four SRVNames, each of them one that keeps the constraints or
+/// one of three that break them.
+fn broken_names(take: Taker) {
+    let texts: [&[u8]; 4] = [b"_m.b", b"_n.b", b"_m.x.b", b"m"];
+    let permitted = vec![subtree(dns_name(b"c")), subtree(srv_name(b"_m.b"))];
+    let excluded = vec![subtree(srv_name(b"X.b"))];
+    for number in 0..256 {
+        let entry = |place: u32| srv_name(texts[number >> (2 * place) & 3]);
+        let case = Case {
+            san: san((0..4).map(entry).collect()).write(),
+            constraints: constraints(permitted.clone(), excluded.clone()).write(),
+            references: record(SRV, b"m", b"b"),
+            ..base()
+        };
+        take((format!("broken names {number}"), case));
+    }
+}
+
+/// One of the four inputs.
+fn field(case: &mut Case, input: usize) -> &mut Vec<u8> {
+    match input {
+        0 => &mut case.san,
+        1 => &mut case.subject,
+        2 => &mut case.constraints,
+        _ => &mut case.references,
+    }
+}
+
+/// All sets of up to three attributes, under SANs that keep a CN from counting
+/// and SANs that do not.
+fn sets(take: Taker) {
+    let absent = Vec::new();
+    let names = [
+        dns_name(b""),
+        uri_name(b""),
+        srv_name(b"x"),
+        email(b"a@b"),
+        ip_address(b""),
+    ];
+    let sans = names.map(|name| san(vec![name]).write());
+    for san in sans.into_iter().chain([absent]) {
+        for set in small_sets() {
+            let what = format!("set of {}", set.len());
+            let first = rdn(vec![common_name(0x16, b"\0")]);
+            let case = Case {
+                san: san.clone(),
+                subject: subject(vec![first, unsorted_rdn(set)]).write(),
+                references: [record(CN, b"", b"c.d"), record(CN, b"", b"a.b")].concat(),
+                ..base()
+            };
+            take((what, case));
+        }
+    }
+}
+
+/// All rows of up to three attributes out of five, in any order.
+fn small_sets() -> Vec<Vec<Node>> {
+    let attributes = [
+        common_name(0x0C, b"a.b"),
+        common_name(0x13, b"c.d"),
+        common_name(0x14, b"a.b"),
+        common_name(0x1E, b""),
+        attribute(&[0x55, 0x04, 0x0A], bytes(0x0C, b"a.b")),
+    ];
+    let places = texts(&[0, 1, 2, 3, 4], 3);
+    let set = |places: &Vec<u8>| {
+        let chosen = places.iter().map(|&place| &attributes[usize::from(place)]);
+        chosen.cloned().collect()
+    };
+    places.iter().map(set).collect()
+}
+
+/// One tree for each certificate string, with every kind of element in it.
+fn trees() -> [Node; 3] {
+    let other = || other_name(&[0x2A, 0x03], bytes(0x0C, b"x"));
+    let entries = vec![
+        email(b"a@b"),
+        dns_name(b"a.b"),
+        other(),
+        srv_name(b"_m.b"),
+        uri_name(b"h://a.b"),
+        ip_address(b""),
+    ];
+    let country = attribute(&[0x55, 0x04, 0x06], bytes(0x13, b"AQ"));
+    let sets = vec![
+        rdn(vec![country.clone()]),
+        rdn(vec![country, common_name(0x0C, b"a.b")]),
+    ];
+    let permitted = vec![
+        subtree(srv_name(b"_m")),
+        subtree(other()),
+        subtree(dns_name(b"b")),
+    ];
+    let excluded = vec![subtree(srv_name(b"_m.x.b")), subtree(ip_address(&[0; 8]))];
+    [
+        san(entries),
+        subject(sets),
+        constraints(permitted, excluded),
+    ]
+}
+
+/// A case of those trees, with one of them replaced by these bytes.
+fn with(input: usize, bytes: Vec<u8>) -> Case {
+    let [san, subject, constraints] = trees();
+    let references = [
+        record(CN, b"", b"a.b"),
+        record(SRV, b"m", b"b"),
+        record(URI, b"h", b"a.b"),
+    ]
+    .concat();
+    let mut case = Case {
+        san: san.write(),
+        subject: subject.write(),
+        constraints: constraints.write(),
+        references,
+    };
+    if input == 1 {
+        // A CN counts only without the other names.
+        case.san = Vec::new();
+    }
+    *field(&mut case, input) = bytes;
+    case
+}
+
+/// Changes each element of each tree in each of `count` ways.
+fn sweep(take: Taker, what: &str, count: usize, change: impl Fn(&mut Node, usize)) {
+    for (input, tree) in trees().iter().enumerate() {
+        for place in 0..size(tree) {
+            for way in 0..count {
+                let mut changed = tree.clone();
+                change(nth(&mut changed, place), way);
+                take((
+                    format!("{what} {way}, element {place}"),
+                    with(input, changed.write()),
+                ));
+            }
+        }
+    }
+}
+
+fn every_tag(take: Taker) {
+    sweep(take, "tag", 256, |node, way| node.tag = way as u8);
+}
+
+/// Every wrong form of a length, and bytes after the content.
+fn every_length(take: Taker) {
+    let forms = [
+        Length::Long(1),
+        Length::Long(2),
+        Length::Long(3),
+        Length::Long(4),
+        Length::Indefinite,
+        Length::Off(1),
+        Length::Off(-1),
+        Length::Off(127),
+    ];
+    sweep(take, "length", forms.len(), |node, way| {
+        node.length = forms[way]
+    });
+    sweep(take, "trailer", 3, |node, way| {
+        node.trailer = vec![[0x00, 0x05, 0x82][way]; 2];
+    });
+    long_contents(take);
+}
+
+/// Contents on both sides of 127 and of 255 bytes, with every length.
+fn long_contents(take: Taker) {
+    for content in [126, 127, 128, 129, 254, 255, 256, 257] {
+        for tag in [0x81, 0x82, 0x86, 0x87] {
+            let mut name = bytes(tag, &vec![b'e'; content]);
+            for form in [
+                Length::Shortest,
+                Length::Long(1),
+                Length::Long(2),
+                Length::Long(3),
+            ] {
+                name.length = form;
+                let entries = vec![name.clone(), dns_name(b"a.b")];
+                let case = Case {
+                    san: san(entries).write(),
+                    ..base()
+                };
+                take((format!("content of {content}"), case));
+            }
+        }
+    }
+}
+
+/// Each child left out, doubled, or put first; each content emptied.
+fn every_child(take: Taker) {
+    sweep(take, "children", 19, |node, way| match &mut node.body {
+        Body::Bytes(content) => content.truncate(way % 3),
+        Body::Parts(children) if way < 18 => {
+            let child = (way % 6).min(children.len() - 1);
+            match way / 6 {
+                0 => drop(children.remove(child)),
+                1 => children.insert(child, children[child].clone()),
+                _ => children.swap(0, child),
+            }
+        }
+        Body::Parts(children) => children.clear(),
+    });
+}
+
+/// Each bit of each input turned, and each byte left out.
+fn every_bit(take: Taker) {
+    for input in 0..4 {
+        let written = if input < 3 {
+            trees()[input].write()
+        } else {
+            with(0, Vec::new()).references
+        };
+        for place in 0..written.len() {
+            for bit in 0..8 {
+                let mut changed = written.clone();
+                changed[place] ^= 1 << bit;
+                take((format!("bit {bit} of byte {place}"), with(input, changed)));
+            }
+            let cut = written[..place].to_vec();
+            take((format!("cut at byte {place}"), with(input, cut)));
+            let shorter = [&written[..place], &written[place + 1..]].concat();
+            take((format!("without byte {place}"), with(input, shorter)));
+        }
+    }
+}
+
+/// Each byte value in each place of a name, in reference and presented
+/// identifier alike, and in one of them alone.
+fn every_byte(take: Taker) {
+    for value in 0..=255 {
+        for place in 0..3 {
+            let mut text = *b"abc";
+            text[place] = value;
+            for kind in [DNS, SRV, URI, CN] {
+                take(same(kind, &text, b"a.b"));
+                take(same(kind, b"s", &text));
+                let mut line = same(kind, b"s", &text);
+                line.1.references = record(
+                    kind,
+                    if matches!(kind, SRV | URI) { b"s" } else { b"" },
+                    b"abc",
+                );
+                take(line);
+            }
+            constrained(&text, b"a.b").into_iter().for_each(&mut *take);
+            constrained(b"s", &text).into_iter().for_each(&mut *take);
+        }
+    }
+}
+
+/// All texts over an alphabet, up to a length.
+fn texts(alphabet: &[u8], longest: usize) -> Vec<Vec<u8>> {
+    let mut texts = vec![Vec::new()];
+    let mut from = 0;
+    for _ in 0..longest {
+        let to = texts.len();
+        for text in from..to {
+            for &byte in alphabet {
+                texts.push([texts[text].as_slice(), &[byte]].concat());
+            }
+        }
+        from = to;
+    }
+    texts
+}
+
+/// Every small text as a name of each kind, and as a subtree.
+fn small_texts(take: Taker) {
+    for text in texts(b"aA.-*0", 5) {
+        let domains: [&[u8]; 3] = [b"a", b"0.a", b"a.0.a"];
+        let references = domains.map(|domain| record(DNS, b"", domain));
+        take(small("small dNSName", dns_name(&text), &references));
+    }
+    for text in texts(b"a:@/.0?#", 4) {
+        let references = [record(URI, b"a", b"a"), record(URI, b"a", b"a.0")];
+        let name = uri_name(&[b"A://", text.as_slice()].concat());
+        take(small("small URI", name, &references));
+    }
+    let permitted = |text: &[u8]| constraints(vec![subtree(srv_name(text))], Vec::new()).write();
+    for text in texts(b"_a.-0", 5).into_iter().skip(1) {
+        let references = [record(SRV, b"a", b"a"), record(SRV, b"a", b"0.a")];
+        take(small("small SRVName", srv_name(&text), &references));
+        let mut line = small(
+            "small SRVName under a subtree",
+            srv_name(&text),
+            &references,
+        );
+        line.1.constraints = permitted(b"a");
+        take(line);
+        let mut line = small("small subtree", srv_name(b"_a.0.a"), &references);
+        line.1.constraints = permitted(&text);
+        take(line);
+    }
+}
+
+/// A SAN of one entry, for these references.
+fn small(what: &str, entry: Node, references: &[Vec<u8>]) -> Line {
+    let case = Case {
+        san: san(vec![entry]).write(),
+        references: references.concat(),
+        ..base()
+    };
+    (what.to_string(), case)
+}

@@ -1,0 +1,398 @@
+//! Drafts of cases: trees that can still be changed before they are written.
+
+use super::words::{near_miss, Pool};
+use super::{Case, Random};
+use crate::longest;
+use crate::records::kind::{CN, DNS, SRV, URI};
+use crate::text::{is_domain, is_scheme, is_service};
+use crate::tree::*;
+
+/// Three trees, each perhaps absent, and the records.
+pub struct Draft {
+    pub san: Option<Node>,
+    pub subject: Option<Node>,
+    pub constraints: Option<Node>,
+    pub references: Vec<Vec<u8>>,
+}
+
+impl Draft {
+    pub fn write(&self) -> Case {
+        let write = |tree: &Option<Node>| tree.as_ref().map(Node::write).unwrap_or_default();
+        Case {
+            san: write(&self.san),
+            subject: write(&self.subject),
+            constraints: write(&self.constraints),
+            references: self.references.concat(),
+        }
+    }
+
+    /// A certificate of a few names and no SRVName constraints.
+    pub fn plain(random: &mut Random, pool: &Pool) -> Self {
+        let entries = (0..random.between(1, 6))
+            .map(|_| entry(random, pool))
+            .collect();
+        Draft {
+            san: Some(san(entries)),
+            subject: small_subject(random, pool),
+            constraints: random
+                .one_in(4)
+                .then(|| constraints(other_subtrees(random), Vec::new())),
+            references: references(random, pool, &[DNS, DNS, SRV, URI, URI, CN]),
+        }
+    }
+
+    /// A certificate whose SAN is absent or seldom keeps a CN from counting.
+    pub fn subject_only(random: &mut Random, pool: &Pool) -> Self {
+        let absent = random.one_in(2);
+        let mut entries: Vec<Node> = (0..random.between(1, 3))
+            .map(|_| other_entry(random))
+            .collect();
+        if random.one_in(8) {
+            entries.push(entry(random, pool));
+        }
+        let sets = (0..random.between(1, 4))
+            .map(|_| set(random, pool))
+            .collect();
+        Draft {
+            san: (!absent).then(|| san(entries)),
+            subject: Some(subject(sets)),
+            constraints: None,
+            references: references(random, pool, &[CN, CN, CN, CN, DNS, SRV]),
+        }
+    }
+
+    /// A certificate with SRVNames under SRVName constraints.
+    pub fn constrained(random: &mut Random, pool: &Pool) -> Self {
+        let mut entries: Vec<Node> = (0..random.between(1, 3))
+            .map(|_| srv_name(&srv_text(random, pool, 12)))
+            .collect();
+        for _ in 0..random.below(3) {
+            entries.insert(random.below(entries.len() + 1), entry(random, pool));
+        }
+        let (permitted, excluded) = match random.below(6) {
+            0..=2 => (subtrees(random, pool), Vec::new()),
+            3..=4 => (Vec::new(), subtrees(random, pool)),
+            _ => (subtrees(random, pool), subtrees(random, pool)),
+        };
+        Draft {
+            san: Some(san(entries)),
+            subject: small_subject(random, pool),
+            constraints: Some(constraints(permitted, excluded)),
+            references: references(random, pool, &[SRV, SRV, SRV, DNS, URI, CN]),
+        }
+    }
+
+    /// A certificate of up to 600 entries and up to 100 sets.
+    pub fn bulk(random: &mut Random, pool: &Pool) -> Self {
+        let mut entries = many_entries(random, pool);
+        if random.one_in(2) {
+            entries.insert(
+                random.below(entries.len() + 1),
+                dns_name(&pool.dns_id(random)),
+            );
+        }
+        let sets = (0..random.below(101)).map(|_| set(random, pool)).collect();
+        let permitted = (0..random.between(1, 60))
+            .flat_map(|_| subtrees(random, pool))
+            .collect();
+        Draft {
+            san: (!entries.is_empty()).then(|| san(entries)),
+            subject: Some(subject(sets)),
+            constraints: random.one_in(3).then(|| constraints(permitted, Vec::new())),
+            references: references(random, pool, &[DNS, DNS, DNS, CN]),
+        }
+    }
+
+    /// A certificate with one input at its limit, or next to it.
+    pub fn sized(random: &mut Random, pool: &Pool) -> Self {
+        let mut draft = Draft::plain(random, pool);
+        let more = random.below(4);
+        match random.below(4) {
+            0 => draft.san = Some(padded_san(longest::SAN - 2 + more, &pool.dns_id(random))),
+            1 => {
+                draft.subject = Some(padded_subject(
+                    longest::SUBJECT - 2 + more,
+                    &pool.dns_id(random),
+                ))
+            }
+            2 => draft.constraints = Some(padded_constraints(longest::CONSTRAINTS - 2 + more)),
+            _ => {
+                let mut bytes = record(DNS, b"", &pool.domain(random)).repeat(17);
+                bytes.truncate(*random.pick(&[5119, 5120, 5120, 5121, 5440]));
+                draft.references = vec![bytes];
+            }
+        }
+        draft
+    }
+}
+
+/// Up to 600 entries: none that matches often, or none that keeps a CN from
+/// counting, or all forms.
+fn many_entries(random: &mut Random, pool: &Pool) -> Vec<Node> {
+    let count = random.below(601);
+    let mix = random.below(3);
+    let one = |random: &mut Random| match (mix, random.below(12)) {
+        (0, 0..=5) => dns_name(b"n.example"),
+        (1, 0..=3) => dns_name(&pool.dns_id(random)),
+        (1, 4) => srv_name(b"_m.b"),
+        _ => other_entry(random),
+    };
+    (0..count).map(|_| one(random)).collect()
+}
+
+/// A SAN of exactly this many bytes, with one dNSName at its end.
+pub fn padded_san(size: usize, text: &[u8]) -> Node {
+    let name = dns_name(text);
+    let mut entries = padding(content_of(size) - name.write().len());
+    entries.push(name);
+    san(entries)
+}
+
+/// A subject of exactly this many bytes, with one CN and one long attribute.
+pub fn padded_subject(size: usize, text: &[u8]) -> Node {
+    let first = rdn(vec![common_name(0x0C, text)]);
+    let set = content_of(size) - first.write().len();
+    let value = content_of(content_of(content_of(set)) - 5);
+    let long = rdn(vec![attribute(
+        &[0x55, 0x04, 0x0D],
+        bytes(0x0C, &vec![b'v'; value]),
+    )]);
+    subject(vec![first, long])
+}
+
+/// Constraints of exactly this many bytes.
+pub fn padded_constraints(size: usize) -> Node {
+    let room = content_of(content_of(size));
+    let base = content_of(content_of(room));
+    constraints(vec![subtree(ip_address(&vec![0x5A; base]))], Vec::new())
+}
+
+/// One to sixteen records, seldom none or more; each seldom a broken one.
+fn references(random: &mut Random, pool: &Pool, kinds: &[u8]) -> Vec<Vec<u8>> {
+    let count = match random.below(60) {
+        0 => 0,
+        1 => 17,
+        2..=6 => 16,
+        7..=14 => random.between(5, 15),
+        15..=40 => random.between(2, 4),
+        _ => 1,
+    };
+    let one = |random: &mut Random| {
+        let kind = *random.pick(kinds);
+        reference(random, pool, kind)
+    };
+    (0..count).map(|_| one(random)).collect()
+}
+
+fn reference(random: &mut Random, pool: &Pool, kind: u8) -> Vec<u8> {
+    let service = match kind {
+        SRV => mostly(is_service, random, |random| pool.service(random)),
+        URI => mostly(is_scheme, random, |random| pool.scheme(random)),
+        _ => Vec::new(),
+    };
+    let domain = mostly(is_domain, random, |random| pool.domain(random));
+    if random.one_in(150) {
+        return broken_record(random, kind, &service, &domain);
+    }
+    record(kind, &service, &domain)
+}
+
+/// A word that passes the test, save one in eight of those that do not.
+fn mostly(
+    test: fn(&[u8]) -> bool,
+    random: &mut Random,
+    word: impl Fn(&mut Random) -> Vec<u8>,
+) -> Vec<u8> {
+    let word = word(random);
+    if test(&word) || random.one_in(8) {
+        return word;
+    }
+    b"a".to_vec()
+}
+
+/// A record that is, in nearly all cases, not readable.
+fn broken_record(random: &mut Random, kind: u8, service: &[u8], domain: &[u8]) -> Vec<u8> {
+    let mut bytes = record(kind, service, domain);
+    match random.below(9) {
+        0 => bytes[0] = *random.pick(&[0, 5, 255]),
+        1 => bytes[1] = 1,
+        2 => bytes[2] = bytes[2].wrapping_add(1),
+        3 => bytes[3] = bytes[3].wrapping_add(1),
+        4 => bytes[2] = bytes[2].wrapping_sub(1),
+        5 => bytes[3] = bytes[3].wrapping_sub(1),
+        6 => bytes[*random.pick(&[66, 319, 4 + service.len() % 63, 67 + domain.len() % 253])] ^= 1,
+        7 => return record(kind, &near_miss(random, [service, b"-"].concat()), domain),
+        _ => return record(kind, service, &near_miss(random, domain.to_vec())),
+    }
+    bytes
+}
+
+/// Any SAN entry.
+fn entry(random: &mut Random, pool: &Pool) -> Node {
+    match random.below(10) {
+        0..=3 => dns_name(&dns_text(random, pool)),
+        4..=5 => srv_name(&srv_text(random, pool, 4)),
+        6..=7 => uri_name(&uri_text(random, pool)),
+        _ => other_entry(random),
+    }
+}
+
+fn dns_text(random: &mut Random, pool: &Pool) -> Vec<u8> {
+    let text = pool.dns_id(random);
+    match random.below(12) {
+        0 => Vec::new(),
+        1..=4 => near_miss(random, text),
+        _ => text,
+    }
+}
+
+/// An SRVName's text, `1` in `crooked` times a near miss or of wrong shape.
+fn srv_text(random: &mut Random, pool: &Pool, crooked: usize) -> Vec<u8> {
+    if !random.one_in(crooked) {
+        return pool.srv_id(random);
+    }
+    let text = pool.crooked_srv(random);
+    if random.one_in(2) {
+        near_miss(random, text)
+    } else {
+        text
+    }
+}
+
+fn uri_text(random: &mut Random, pool: &Pool) -> Vec<u8> {
+    match random.below(7) {
+        0..=1 => pool.crooked_uri(random),
+        2 => {
+            let text = pool.uri_id(random);
+            near_miss(random, text)
+        }
+        _ => pool.uri_id(random),
+    }
+}
+
+/// An entry that keeps no CN from counting: email, address or another form.
+fn other_entry(random: &mut Random) -> Node {
+    const FORMS: [u8; 8] = [0x81, 0x81, 0x87, 0x87, 0x88, 0xA3, 0xA4, 0xA5];
+    const NEAR_OIDS: [&[u8]; 4] = [
+        &[0x2B, 0x06, 0x01, 0x05, 0x05, 0x07, 0x08],
+        &[0x2B, 0x06, 0x01, 0x05, 0x05, 0x07, 0x08, 0x09],
+        &[0x2B, 0x06, 0x01, 0x05, 0x05, 0x07, 0x08, 0x07, 0x00],
+        &[0x01],
+    ];
+    if random.one_in(5) {
+        let inner = bytes(*random.pick(&[0x16, 0x0C, 0x30, 0x00, 0x02]), b"_m.b");
+        let oid = *random.pick(&NEAR_OIDS);
+        return other_name(oid, inner);
+    }
+    let content = vec![*random.pick(b"a0\x7F"); random.below(5)];
+    bytes(*random.pick(&FORMS), &content)
+}
+
+/// A subject of few sets, perhaps of none.
+fn small_subject(random: &mut Random, pool: &Pool) -> Option<Node> {
+    let sets = (0..random.below(3)).map(|_| set(random, pool)).collect();
+    Some(subject(sets))
+}
+
+/// One set: mostly of one attribute, mostly in order.
+fn set(random: &mut Random, pool: &Pool) -> Node {
+    let count = *random.pick(&[1, 1, 1, 1, 2, 2, 3]);
+    let attributes = (0..count).map(|_| any_attribute(random, pool)).collect();
+    if random.one_in(20) {
+        unsorted_rdn(attributes)
+    } else {
+        rdn(attributes)
+    }
+}
+
+fn any_attribute(random: &mut Random, pool: &Pool) -> Node {
+    const OTHER_OIDS: [&[u8]; 6] = [
+        &[0x55, 0x04, 0x06],
+        &[0x55, 0x04, 0x0A],
+        &[0x55, 0x04, 0x02],
+        &[0x55, 0x04],
+        &[0x55, 0x04, 0x03, 0x00],
+        &[0x2A, 0x86, 0x48, 0x86, 0xF7, 0x0D, 0x01, 0x09, 0x01],
+    ];
+    const TAGS: [u8; 12] = [
+        0x0C, 0x0C, 0x0C, 0x0C, 0x13, 0x13, 0x16, 0x16, 0x14, 0x1E, 0x04, 0x30,
+    ];
+    let text = cn_text(random, pool);
+    let tag = *random.pick(&TAGS);
+    if random.one_in(3) {
+        let oid = *random.pick(&OTHER_OIDS);
+        attribute(oid, bytes(tag, &text))
+    } else {
+        common_name(tag, &text)
+    }
+}
+
+/// A CN's value: a DNS-ID, a near miss, or one with a byte that no name has.
+fn cn_text(random: &mut Random, pool: &Pool) -> Vec<u8> {
+    let mut text = pool.dns_id(random);
+    match random.below(14) {
+        0 => text.extend(b"\0.example"),
+        1 => text.push(0),
+        2 => {
+            let at = random.below(text.len());
+            text[at] |= 0x80;
+        }
+        3 => text.extend("\u{E9}".bytes()),
+        4 => text = near_miss(random, text),
+        _ => {}
+    }
+    text
+}
+
+/// One to three subtrees of one side, SRVNames mostly.
+fn subtrees(random: &mut Random, pool: &Pool) -> Vec<Node> {
+    let mut subtrees = Vec::new();
+    for _ in 0..random.between(1, 3) {
+        if random.one_in(6) {
+            subtrees.extend(other_subtrees(random));
+        } else {
+            subtrees.push(srv_subtree(random, pool));
+        }
+    }
+    subtrees
+}
+
+/// An SRVName subtree in one of the three texts; seldom a broken text, or a
+/// minimum or maximum.
+fn srv_subtree(random: &mut Random, pool: &Pool) -> Node {
+    let mut text = match random.below(3) {
+        0 => [b"_", pool.service(random).as_slice()].concat(),
+        1 => [
+            b"_",
+            pool.service(random).as_slice(),
+            b".",
+            &pool.domain(random),
+        ]
+        .concat(),
+        _ => pool.domain(random),
+    };
+    if random.one_in(40) {
+        text = near_miss(random, text);
+    }
+    let mut node = subtree(srv_name(&text));
+    if random.one_in(80) {
+        node = parts(
+            0x30,
+            vec![srv_name(&text), bytes(*random.pick(&[0x80, 0x81]), &[0])],
+        );
+    }
+    node
+}
+
+/// Subtrees of other forms, which are "read and passed over".
+fn other_subtrees(random: &mut Random) -> Vec<Node> {
+    let one = |random: &mut Random| match random.below(4) {
+        0 => dns_name(b"example"),
+        1 => uri_name(b".example"),
+        2 => dns_name(b""),
+        _ => other_entry(random),
+    };
+    (0..random.between(1, 2))
+        .map(|_| subtree(one(random)))
+        .collect()
+}

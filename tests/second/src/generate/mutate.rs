@@ -1,0 +1,113 @@
+//! Changes to drafts, which keep the lengths of all parents right, and changes
+//! to written bytes, which do not.
+
+use super::draft::Draft;
+use super::{Case, Random};
+use crate::tree::{bytes, Body, Length, Node};
+
+const TAGS: [u8; 33] = [
+    0x00, 0x02, 0x04, 0x05, 0x06, 0x0C, 0x13, 0x14, 0x16, 0x1E, 0x1F, 0x30, 0x31, 0x3F, 0x80, 0x81,
+    0x82, 0x83, 0x84, 0x85, 0x86, 0x87, 0x88, 0x89, 0x9F, 0xA0, 0xA1, 0xA2, 0xA3, 0xA4, 0xA5, 0xA6,
+    0xFF,
+];
+
+/// Changes one element of one of the three trees, or leaves a tree out.
+pub fn draft(random: &mut Random, draft: &mut Draft) {
+    let tree = match random.below(3) {
+        0 => &mut draft.san,
+        1 => &mut draft.subject,
+        _ => &mut draft.constraints,
+    };
+    if random.one_in(12) {
+        *tree = None;
+    }
+    if let Some(root) = tree {
+        let chosen = random.below(size(root));
+        change(random, nth(root, chosen));
+    }
+}
+
+/// The number of elements of a tree.
+pub fn size(node: &Node) -> usize {
+    1 + node.children().iter().map(size).sum::<usize>()
+}
+
+/// The element at this place, each parent before its children.
+pub fn nth(node: &mut Node, mut place: usize) -> &mut Node {
+    if place == 0 {
+        return node;
+    }
+    place -= 1;
+    let mut child = 0;
+    while place >= size(&node.children()[child]) {
+        place -= size(&node.children()[child]);
+        child += 1;
+    }
+    nth(&mut node.children_mut()[child], place)
+}
+
+/// Changes one element: its tag, its length, its trailer or its body.
+fn change(random: &mut Random, node: &mut Node) {
+    match random.below(8) {
+        0 => node.tag = *random.pick(&TAGS),
+        1 => node.tag ^= 1 << random.below(8),
+        2 => node.length = Length::Long(random.between(1, 4) as u8),
+        3 => node.length = *random.pick(&[Length::Off(1), Length::Off(-1), Length::Indefinite]),
+        4 => node.trailer = vec![*random.pick(&[0x00, 0x05, 0x30, 0x80]); random.between(1, 2)],
+        _ => change_body(random, &mut node.body),
+    }
+}
+
+fn change_body(random: &mut Random, body: &mut Body) {
+    match body {
+        Body::Bytes(content) => edit(random, content),
+        Body::Parts(children) if children.is_empty() => children.push(bytes(0x05, &[])),
+        Body::Parts(children) => {
+            let (one, other) = (random.below(children.len()), random.below(children.len()));
+            match random.below(5) {
+                0 => drop(children.remove(one)),
+                1 => children.insert(one, children[other].clone()),
+                2 => children.swap(one, other),
+                3 => children.insert(one, bytes(*random.pick(&TAGS), &[])),
+                _ => children.clear(),
+            }
+        }
+    }
+}
+
+/// Changes the bytes of one input.
+pub fn case(random: &mut Random, case: &mut Case) {
+    let input = match random.below(4) {
+        0 => &mut case.san,
+        1 => &mut case.subject,
+        2 => &mut case.constraints,
+        _ => &mut case.references,
+    };
+    for _ in 0..random.between(1, 2) {
+        edit(random, input);
+    }
+}
+
+/// One change of a byte string: a bit, a byte, a cut, a copy or a long length.
+fn edit(random: &mut Random, input: &mut Vec<u8>) {
+    if input.is_empty() {
+        return input.push(random.byte());
+    }
+    let at = random.below(input.len());
+    match random.below(10) {
+        0 => input[at] ^= 1 << random.below(8),
+        1 => input[at] = random.byte(),
+        2 => input[at] = *random.pick(&[0x00, 0x2E, 0x7F, 0x80, 0xFF]),
+        3 => input[at] = input[at].wrapping_add(1),
+        4 => input.truncate(at),
+        5 => input.push(random.byte()),
+        6 => input.insert(at, random.byte()),
+        7 => drop(input.remove(at)),
+        8 => input.insert(at, *random.pick(&[0x81, 0x82])),
+        _ => {
+            let end = random.between(at, input.len().min(at + 40));
+            let copy = input[at..end].to_vec();
+            drop(input.splice(at..at, copy));
+        }
+    }
+}

@@ -1,0 +1,48 @@
+//! A second implementation of the certificate name check, written from the
+//! document "The rules and what will be built" (document 01) alone. Quoted
+//! sentences in the comments are that document's.
+
+pub mod constraints;
+pub mod der;
+pub mod examples;
+pub mod general_name;
+pub mod generate;
+pub mod listing;
+pub mod name;
+pub mod program;
+pub mod records;
+pub mod san;
+pub mod subject;
+pub mod text;
+pub mod tree;
+pub mod verdict;
+
+#[cfg(feature = "archive")]
+pub mod archive;
+
+pub use listing::{list, list_into, Listed, Listing, Which};
+pub use name::Row;
+pub use records::{record, RecordView};
+pub use verdict::{judge, text_place, verdict, Outcome, Place, Verdict};
+
+/// "Numbers the kiosk sees": what each answer means.
+pub mod answer {
+    pub const MATCH: u32 = 0;
+    pub const MISMATCH: u32 = 1;
+    pub const CONSTRAINTS_BROKEN: u32 = 2;
+    pub const SAN_UNREADABLE: u32 = 3;
+    pub const SUBJECT_UNREADABLE: u32 = 4;
+    pub const CONSTRAINTS_UNREADABLE: u32 = 5;
+    pub const REFERENCES_UNREADABLE: u32 = 6;
+    pub const TOO_LONG: u32 = 7;
+    pub const TABLE_TOO_SHORT: u32 = 8;
+}
+
+/// "Longest inputs, in bytes: SAN 16,384; subject 4,096; constraints 16,384;
+/// references 5,120."
+pub mod longest {
+    pub const SAN: usize = 16_384;
+    pub const SUBJECT: usize = 4_096;
+    pub const CONSTRAINTS: usize = 16_384;
+    pub const REFERENCES: usize = 5_120;
+}

@@ -1,0 +1,123 @@
+//! "Names": the texts of domains, services, schemes, SRV-IDs, URI-IDs and
+//! SRVName subtrees.
+
+pub const LONGEST_DOMAIN: usize = 253;
+pub const LONGEST_LABEL: usize = 63;
+pub const LONGEST_SERVICE: usize = 62;
+pub const LONGEST_SCHEME: usize = 63;
+
+/// A service or scheme, and a domain.
+pub type Pair<'a> = (&'a [u8], &'a [u8]);
+
+/// "A label has letters, digits and hyphens, no hyphen at either end."
+fn is_label(text: &[u8], longest: usize) -> bool {
+    (1..=longest).contains(&text.len())
+        && text[0] != b'-'
+        && text[text.len() - 1] != b'-'
+        && text
+            .iter()
+            .all(|&byte| byte.is_ascii_alphanumeric() || byte == b'-')
+}
+
+/// "Domain: at most 253 bytes, one or more labels of 1 to 63 bytes joined by
+/// single dots. [...] No trailing dot."
+pub fn is_domain(text: &[u8]) -> bool {
+    text.len() <= LONGEST_DOMAIN
+        && text
+            .split(|&byte| byte == b'.')
+            .all(|label| is_label(label, LONGEST_LABEL))
+}
+
+/// "a service (1 to 62 letters, digits, hyphens, no hyphen at an end)"
+pub fn is_service(text: &[u8]) -> bool {
+    is_label(text, LONGEST_SERVICE)
+}
+
+/// "a URI scheme (a letter, then letters, digits, "+", "-", "."), 1 to 63
+/// bytes"
+pub fn is_scheme(text: &[u8]) -> bool {
+    text.len() <= LONGEST_SCHEME
+        && text.first().is_some_and(u8::is_ascii_alphabetic)
+        && text
+            .iter()
+            .all(|&byte| byte.is_ascii_alphanumeric() || matches!(byte, b'+' | b'-' | b'.'))
+}
+
+/// The parts before and after the first `separator`.
+fn split_once(text: &[u8], separator: u8) -> Option<(&[u8], &[u8])> {
+    let at = text.iter().position(|&byte| byte == separator)?;
+    Some((&text[..at], &text[at + 1..]))
+}
+
+/// The domain without its first label, if it has more than one.
+pub fn parent(domain: &[u8]) -> Option<&[u8]> {
+    split_once(domain, b'.').map(|(_, parent)| parent)
+}
+
+/// Service and domain of an SRVName, not yet judged: "_", what stands before
+/// the first dot, and what stands after it.
+pub fn srv_parts(text: &[u8]) -> Option<Pair<'_>> {
+    split_once(text.strip_prefix(b"_")?, b'.')
+}
+
+/// "SRV-ID: "_", a service [...], ".", a domain without wildcard."
+pub fn srv_id(text: &[u8]) -> Option<Pair<'_>> {
+    srv_parts(text).filter(|(service, domain)| is_service(service) && is_domain(domain))
+}
+
+/// Scheme and domain of a URI, not yet judged. "a scheme as in a record,
+/// "://", then an authority up to the first "/", "?", "#" or the end:
+/// optionally a text (perhaps empty) without "@" and then "@", a domain,
+/// optionally ":" and digits or nothing."
+pub fn uri_parts(text: &[u8]) -> Option<Pair<'_>> {
+    let (scheme, rest) = split_once(text, b':')?;
+    let rest = rest.strip_prefix(b"//")?;
+    let end = rest
+        .iter()
+        .position(|byte| matches!(byte, b'/' | b'?' | b'#'));
+    let authority = &rest[..end.unwrap_or(rest.len())];
+    let host = split_once(authority, b'@').map_or(authority, |(_, host)| host);
+    match split_once(host, b':') {
+        None => Some((scheme, host)),
+        Some((domain, port)) => port
+            .iter()
+            .all(u8::is_ascii_digit)
+            .then_some((scheme, domain)),
+    }
+}
+
+/// Service and domain of an SRVName subtree, each where it is given.
+fn subtree_parts(text: &[u8]) -> (Option<&[u8]>, Option<&[u8]>) {
+    match text.strip_prefix(b"_") {
+        None => (None, Some(text)),
+        Some(rest) => match split_once(rest, b'.') {
+            None => (Some(rest), None),
+            Some((service, domain)) => (Some(service), Some(domain)),
+        },
+    }
+}
+
+/// "An SRVName here has one of three texts: `_service`, `_service.domain`,
+/// `domain`."
+pub fn is_srv_subtree(text: &[u8]) -> bool {
+    let (service, domain) = subtree_parts(text);
+    service.is_none_or(is_service) && domain.is_none_or(is_domain)
+}
+
+/// "It lies in a subtree if the service is equal, without case, where one is
+/// given, and the subtree's labels are the last labels of its domain where a
+/// domain is given."
+pub fn lies_in((service, domain): Pair<'_>, subtree: &[u8]) -> bool {
+    let (wanted_service, wanted_domain) = subtree_parts(subtree);
+    wanted_service.is_none_or(|wanted| service.eq_ignore_ascii_case(wanted))
+        && wanted_domain.is_none_or(|wanted| ends_with_labels(domain, wanted))
+}
+
+/// Whether the labels of `last` are the last labels of `domain`. "Equal
+/// domains count."
+fn ends_with_labels(domain: &[u8], last: &[u8]) -> bool {
+    let Some(before) = domain.len().checked_sub(last.len()) else {
+        return false;
+    };
+    (before == 0 || domain[before - 1] == b'.') && domain[before..].eq_ignore_ascii_case(last)
+}

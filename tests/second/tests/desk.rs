@@ -1,0 +1,113 @@
+//! The desk examples and old faults of document 01, by number.
+
+use second::examples::{table, J, S};
+use second::records::kind::{CN, DNS, SRV, URI};
+use second::tree::*;
+use second::{list_into, program, text_place, verdict, Listed, Place, Row, Which};
+
+#[test]
+fn every_example_has_its_verdict() {
+    for example in table() {
+        let case = &example.case;
+        let v = verdict(
+            &case.san,
+            &case.subject,
+            &case.constraints,
+            &case.references,
+        );
+        let numbers = [v.answer, v.reference, v.presented, v.start, v.length];
+        assert_eq!(numbers, example.verdict, "example {}", example.number);
+    }
+}
+
+#[test]
+fn every_number_is_in_the_table() {
+    let numbers: Vec<String> = table().into_iter().map(|example| example.number).collect();
+    let wanted = (1..=16).map(|number| format!("P{number}"));
+    let wanted = wanted.chain((1..=7).map(|number| format!("D{number}")));
+    for number in wanted.chain(["F1", "F2", "F3", "F4"].map(String::from)) {
+        assert!(numbers.contains(&number), "{number} is missing");
+    }
+    assert_eq!(
+        numbers
+            .iter()
+            .filter(|number| number.starts_with("D8"))
+            .count(),
+        10
+    );
+}
+
+#[test]
+fn p16_output_of_the_program() {
+    let output = program::output(&S, &J, &[], &record(DNS, b"", b"A.B"));
+    assert_eq!(output, "0 0 0 2 5\n2 2 5 0\n");
+}
+
+#[test]
+fn output_of_the_program_for_other_sans() {
+    let references = record(DNS, b"", b"a.b");
+    let output = |san: &[u8]| program::output(san, &J, &[], &references);
+    assert_eq!(output(&[]), "1 0 0 0 0\n");
+    assert_eq!(output(&[0x30, 0x00]), "3 0 0 0 0\n");
+    assert_eq!(output(&[0x30; 16_385]), "7 0 0 0 0\n");
+    let empty_names = |count| san(vec![dns_name(b""); count]).write();
+    assert_eq!(output(&empty_names(512)).lines().count(), 513);
+    assert_eq!(output(&empty_names(513)), "1 0 0 0 0\nrows 513\n");
+    // Refused references do not keep the SAN's rows back.
+    assert_eq!(program::output(&S, &J, &[], &[]), "6 0 0 0 0\n2 2 5 0\n");
+}
+
+#[test]
+fn f5_rows_left_from_the_last_certificate() {
+    let mut table = [Row::default(); 3];
+    let three = san(vec![dns_name(b"a"), dns_name(b"b"), dns_name(b"c")]).write();
+    assert_eq!(
+        list_into(&mut table, &three, Which::San),
+        Listed {
+            answer: 0,
+            count: 3
+        }
+    );
+    let before = table;
+    assert_eq!(
+        list_into(&mut table, &S, Which::San),
+        Listed {
+            answer: 0,
+            count: 1
+        }
+    );
+    assert_eq!(
+        table[0],
+        Row {
+            kind: 2,
+            start: 2,
+            length: 5,
+            group: 0
+        }
+    );
+    assert_eq!(table[1..], before[1..]);
+}
+
+#[test]
+fn place_of_the_witness_text() {
+    let place = |entry: Node, references: &[u8]| {
+        text_place(
+            &san(vec![ip_address(b"xyz"), entry]).write(),
+            &J,
+            &[],
+            references,
+        )
+    };
+    let at = |start, length| Place { start, length };
+    assert_eq!(place(dns_name(b"a.b"), &record(DNS, b"", b"a.b")), at(9, 3));
+    assert_eq!(
+        place(uri_name(b"h://a.b"), &record(URI, b"h", b"a.b")),
+        at(9, 7)
+    );
+    assert_eq!(
+        place(srv_name(b"_m.a.b"), &record(SRV, b"m", b"a.b")),
+        at(23, 6)
+    );
+    assert_eq!(place(email(b"a@b"), &record(CN, b"", b"a.b")), at(13, 3));
+    assert_eq!(place(dns_name(b"a.b"), &record(DNS, b"", b"a.c")), at(0, 0));
+}

@@ -1,0 +1,99 @@
+//! Unit tables for the reference records and the record reader.
+
+use second::examples::domain_of;
+use second::records::kind::{CN, DNS, SRV, URI};
+use second::tree::record as write;
+use second::{record, RecordView};
+
+fn answer(references: &[u8]) -> u32 {
+    record(references, 0).answer
+}
+
+#[test]
+fn one_record_of_each_kind() {
+    let view = |kind, service_length, domain_length| RecordView {
+        answer: 0,
+        kind: u32::from(kind),
+        service_length,
+        domain_length,
+    };
+    assert_eq!(record(&write(DNS, b"", b"a.b"), 0), view(DNS, 0, 3));
+    assert_eq!(record(&write(SRV, b"mail", b"b"), 0), view(SRV, 4, 1));
+    assert_eq!(record(&write(URI, b"h", b"a.b"), 0), view(URI, 1, 3));
+    assert_eq!(
+        record(&write(CN, b"", &domain_of(253)), 0),
+        view(CN, 0, 253)
+    );
+}
+
+#[test]
+fn counts_and_indexes() {
+    let one = write(DNS, b"", b"a.b");
+    assert_eq!(answer(&[]), 6);
+    for count in 1..=16 {
+        let references = one.repeat(count);
+        assert_eq!(record(&references, count - 1).domain_length, 3);
+        assert_eq!(record(&references, count), RecordView::default());
+        assert_eq!(record(&references, usize::MAX), RecordView::default());
+        assert_eq!(answer(&references[1..]), 6);
+    }
+    assert_eq!(answer(&one.repeat(17)), 7);
+    assert_eq!(answer(&[0; 5_120]), 6);
+    assert_eq!(answer(&[0; 5_121]), 7);
+    let last_broken = [one.repeat(15), write(9, b"", b"a.b")].concat();
+    assert_eq!(
+        record(&last_broken, 0),
+        RecordView {
+            answer: 6,
+            ..RecordView::default()
+        }
+    );
+}
+
+#[test]
+fn fields() {
+    let readable = [
+        write(SRV, &[b's'; 62], b"a"),
+        write(URI, &[b'u'; 63], b"a"),
+        write(URI, b"a+b-c.d", b"a"),
+        write(DNS, b"", &[b'l'; 63]),
+    ];
+    for record in readable {
+        assert_eq!(answer(&record), 0, "{record:?}");
+    }
+    let unreadable = [
+        write(0, b"", b"a"),
+        write(5, b"", b"a"),
+        write(DNS, b"s", b"a"),
+        write(CN, b"s", b"a"),
+        write(SRV, b"", b"a"),
+        write(SRV, &[b's'; 63], b"a"),
+        write(SRV, b"_s", b"a"),
+        write(URI, b"", b"a"),
+        write(URI, &[b'u'; 64], b"a"),
+        write(URI, b"9", b"a"),
+        write(DNS, b"", b""),
+        write(DNS, b"", b"*.a"),
+        write(DNS, b"", b"a."),
+        write(DNS, b"", &[b'l'; 64]),
+        write(DNS, b"", &domain_of(254)),
+    ];
+    for record in unreadable {
+        assert_eq!(answer(&record), 6, "{record:?}");
+    }
+}
+
+#[test]
+fn zeros_outside_of_the_texts() {
+    let good = write(SRV, b"mail", b"a.b");
+    for place in (0..320).filter(|place| ![0, 2, 3].contains(place)) {
+        let mut changed = good.clone();
+        changed[place] ^= 0x80;
+        assert_eq!(answer(&changed), 6, "byte {place}");
+    }
+    for place in (8..67).chain(70..320) {
+        let mut changed = good.clone();
+        changed[place] = b'x';
+        assert_eq!(answer(&changed), 6, "byte {place}");
+    }
+}
