@@ -3,12 +3,8 @@
 ghost use Prim.Native.Nat.{_≤_};
 ghost use mathlib.Core.Path.{_≡_};
 ghost use lib.ListN.{length};
-ghost use Rattle.rules.specs.Seen.{seenRecords};
 ghost use Rattle.rules.specs.Records.{shown};
-ghost use Rattle.rules.specs.Verdict.{outcomeOf, verdictOf, witnessPart};
-ghost use Rattle.rules.specs.Listing.{listedOf, tableAfter};
-ghost use Rattle.reading.specs.Views.{seenSan, seenSubject, seenConstraints};
-ghost use Rattle.listing.specs.Listing.{refusalOf, seenRows};
+ghost use Rattle.reading.specs.Calls.{inputs, verdictOn, witnessPartOn, listingOn, tableOn};
 
 // A number that fits.
 fn narrow(n: usize) -> u32
@@ -26,7 +22,7 @@ pub extern "C" fn beckethand_answer(
     constraints: &[u8],
     references: &[u8],
 ) -> u32
-    ensures { λ r. ⌜ r ≡ verdictOf (seenRecords (now (references .entry))) (seenSan (now (san .entry))) (seenSubject (now (subject .entry))) (seenConstraints (now (constraints .entry))) .answer ⌝ }
+    ensures { λ r. ⌜ r ≡ verdictOn (inputs (now (san .entry)) (now (subject .entry)) (now (constraints .entry)) (now (references .entry))) .answer ⌝ }
 {
     let v = verdict::verdict(san, subject, constraints, references);
     narrow(v.answer)
@@ -40,7 +36,7 @@ pub extern "C" fn beckethand_reference(
     constraints: &[u8],
     references: &[u8],
 ) -> u32
-    ensures { λ r. ⌜ r ≡ verdictOf (seenRecords (now (references .entry))) (seenSan (now (san .entry))) (seenSubject (now (subject .entry))) (seenConstraints (now (constraints .entry))) .reference ⌝ }
+    ensures { λ r. ⌜ r ≡ verdictOn (inputs (now (san .entry)) (now (subject .entry)) (now (constraints .entry)) (now (references .entry))) .reference ⌝ }
 {
     let v = verdict::verdict(san, subject, constraints, references);
     narrow(v.reference)
@@ -54,7 +50,7 @@ pub extern "C" fn beckethand_presented(
     constraints: &[u8],
     references: &[u8],
 ) -> u32
-    ensures { λ r. ⌜ r ≡ verdictOf (seenRecords (now (references .entry))) (seenSan (now (san .entry))) (seenSubject (now (subject .entry))) (seenConstraints (now (constraints .entry))) .presented ⌝ }
+    ensures { λ r. ⌜ r ≡ verdictOn (inputs (now (san .entry)) (now (subject .entry)) (now (constraints .entry)) (now (references .entry))) .presented ⌝ }
 {
     let v = verdict::verdict(san, subject, constraints, references);
     narrow(v.presented)
@@ -68,7 +64,7 @@ pub extern "C" fn beckethand_start(
     constraints: &[u8],
     references: &[u8],
 ) -> u32
-    ensures { λ r. ⌜ r ≡ verdictOf (seenRecords (now (references .entry))) (seenSan (now (san .entry))) (seenSubject (now (subject .entry))) (seenConstraints (now (constraints .entry))) .start ⌝ }
+    ensures { λ r. ⌜ r ≡ verdictOn (inputs (now (san .entry)) (now (subject .entry)) (now (constraints .entry)) (now (references .entry))) .start ⌝ }
 {
     let v = verdict::verdict(san, subject, constraints, references);
     narrow(v.start)
@@ -82,7 +78,7 @@ pub extern "C" fn beckethand_length(
     constraints: &[u8],
     references: &[u8],
 ) -> u32
-    ensures { λ r. ⌜ r ≡ verdictOf (seenRecords (now (references .entry))) (seenSan (now (san .entry))) (seenSubject (now (subject .entry))) (seenConstraints (now (constraints .entry))) .length ⌝ }
+    ensures { λ r. ⌜ r ≡ verdictOn (inputs (now (san .entry)) (now (subject .entry)) (now (constraints .entry)) (now (references .entry))) .length ⌝ }
 {
     let v = verdict::verdict(san, subject, constraints, references);
     narrow(v.length)
@@ -96,7 +92,7 @@ pub extern "C" fn beckethand_text_start(
     constraints: &[u8],
     references: &[u8],
 ) -> u32
-    ensures { λ r. ⌜ r ≡ witnessPart (outcomeOf (seenRecords (now (references .entry))) (seenSan (now (san .entry))) (seenSubject (now (subject .entry))) (seenConstraints (now (constraints .entry)))) .start ⌝ }
+    ensures { λ r. ⌜ r ≡ witnessPartOn (inputs (now (san .entry)) (now (subject .entry)) (now (constraints .entry)) (now (references .entry))) .start ⌝ }
 {
     let p = verdict::text_place(san, subject, constraints, references);
     narrow(p.start)
@@ -110,7 +106,7 @@ pub extern "C" fn beckethand_text_length(
     constraints: &[u8],
     references: &[u8],
 ) -> u32
-    ensures { λ r. ⌜ r ≡ witnessPart (outcomeOf (seenRecords (now (references .entry))) (seenSan (now (san .entry))) (seenSubject (now (subject .entry))) (seenConstraints (now (constraints .entry)))) .length ⌝ }
+    ensures { λ r. ⌜ r ≡ witnessPartOn (inputs (now (san .entry)) (now (subject .entry)) (now (constraints .entry)) (now (references .entry))) .length ⌝ }
 {
     let p = verdict::text_place(san, subject, constraints, references);
     narrow(p.length)
@@ -159,8 +155,8 @@ pub extern "C" fn beckethand_list(
     bytes: &[u8],
     which: usize,
 ) -> rules::Listed
-    ensures { λ r. ⌜ (r ≡ listedOf (refusalOf which) (seenRows which (now (bytes .entry))) (length (now (table .entry))))
-        × (now (table .exit) ≡ tableAfter (seenRows which (now (bytes .entry))) (now (table .entry))) ⌝ }
+    ensures { λ r. ⌜ (r ≡ listingOn which (now (bytes .entry)) (length (now (table .entry))))
+        × (now (table .exit) ≡ tableOn which (now (bytes .entry)) (now (table .entry))) ⌝ }
 {
     listing::list(table, bytes, which)
 }

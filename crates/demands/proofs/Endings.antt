@@ -1,4 +1,4 @@
--- How a verdict ends: the first condition that holds, and the five numbers it gives.
+-- How a verdict ends: the first condition that holds, and the numbers numbers it gives.
 use Prim.Native.Nat.{ℕ, _≤_, _<_}
 use mathlib.Core.Path.{_≡_, refl, sym, _∙_}
 use mathlib.Core.Logic.{_⊎_, inl, inr}
@@ -13,9 +13,10 @@ use Rattle.rules.specs.Der.{Member}
 use Rattle.rules.specs.San.{GeneralName}
 use Rattle.rules.specs.Subject.{Attribute}
 use Rattle.rules.specs.Seen.{Seen, tooLong, unreadable, listed, sanInput, subjectInput, constraintsInput, Reads, seenRecords}
-use Rattle.rules.specs.Verdict.{isLong, isUnreadable, judged, outcomeOf, numbersOf, verdictOf}
+use Rattle.rules.specs.Verdict.{isLong, isUnreadable, judged, outcomeOf, numbers, numbersOf}
 use Rattle.reading.specs.Views.{seenSan, seenSubject, seenConstraints}
-use Rattle.demands.specs.Statements.{Strings, verdictOn, outcomeOn, five, TooLong, RecordsUnreadable, Unreadable, Names, Read}
+use Rattle.reading.specs.Calls.{Inputs, outcomeOn, verdictOn}
+use Rattle.demands.specs.Statements.{TooLong, RecordsUnreadable, Unreadable, Names, Read}
 use Rattle.demands.proofs.Looked.{seen-long, seen-listed, seen-fits, read-or-not, unread, not-unread, same-list, one-list, records-long, records-bad, records-good, san-sight, subject-sight, constraints-sight}
 
 -- ---- by what is seen
@@ -33,57 +34,58 @@ or-four false false false false (inr (inr (inr e))) = e
 
 module _ (R : Seen Reference) (S : Seen GeneralName) (U : Seen (Member Attribute)) (C : Seen (Member GeneralName)) where
   -- each refusal, where its test holds and no earlier one does
-  seven : (isLong R || isLong S || isLong U || isLong C) ≡ true → verdictOf R S U C ≡ five 7 0 0 0 0
-  unfolding verdictOf outcomeOf numbersOf
+  seven : (isLong R || isLong S || isLong U || isLong C) ≡ true → numbersOf (outcomeOf R S U C) ≡ numbers 7 0 0 0 0
+  unfolding outcomeOf numbersOf
   seven e = simp e
 
   module _ (fits : (isLong R || isLong S || isLong U || isLong C) ≡ false) where
-    six : isUnreadable R ≡ true → verdictOf R S U C ≡ five 6 0 0 0 0
-    unfolding verdictOf outcomeOf numbersOf
+    six : isUnreadable R ≡ true → numbersOf (outcomeOf R S U C) ≡ numbers 6 0 0 0 0
+    unfolding outcomeOf numbersOf
     six a = simp (fits, a)
 
-    three : isUnreadable R ≡ false → isUnreadable S ≡ true → verdictOf R S U C ≡ five 3 0 0 0 0
-    unfolding verdictOf outcomeOf numbersOf
+    three : isUnreadable R ≡ false → isUnreadable S ≡ true → numbersOf (outcomeOf R S U C) ≡ numbers 3 0 0 0 0
+    unfolding outcomeOf numbersOf
     three a b = simp (fits, a, b)
 
-    four : isUnreadable R ≡ false → isUnreadable S ≡ false → isUnreadable U ≡ true → verdictOf R S U C ≡ five 4 0 0 0 0
-    unfolding verdictOf outcomeOf numbersOf
+    four : isUnreadable R ≡ false → isUnreadable S ≡ false → isUnreadable U ≡ true → numbersOf (outcomeOf R S U C) ≡ numbers 4 0 0 0 0
+    unfolding outcomeOf numbersOf
     four a b c = simp (fits, a, b, c)
 
-    five-is : isUnreadable R ≡ false → isUnreadable S ≡ false → isUnreadable U ≡ false → isUnreadable C ≡ true → verdictOf R S U C ≡ five 5 0 0 0 0
-    unfolding verdictOf outcomeOf numbersOf
-    five-is a b c d = simp (fits, a, b, c, d)
+    five : isUnreadable R ≡ false → isUnreadable S ≡ false → isUnreadable U ≡ false → isUnreadable C ≡ true → numbersOf (outcomeOf R S U C) ≡ numbers 5 0 0 0 0
+    unfolding outcomeOf numbersOf
+    five a b c d = simp (fits, a, b, c, d)
 
 -- ---- by the bytes
 
 -- all four are within their limits
-pub record Fits (s : Strings) : Type 0 where
+pub record Fits (s : Inputs) : Type 0 where
   pub references : length (s .references) ≤ recordsLimit
   pub san : length (s .san) ≤ sanLimit
   pub subject : length (s .subject) ≤ subjectLimit
   pub constraints : length (s .constraints) ≤ constraintsLimit
 
 -- the first of document 01's conditions that holds; where none does, the names
-pub data Ending (s : Strings) : Type 0 where
-  long : TooLong s → verdictOn s ≡ five 7 0 0 0 0 → Ending s
-  records : Fits s → RecordsUnreadable s → verdictOn s ≡ five 6 0 0 0 0 → Ending s
-  san : Fits s → ¬ RecordsUnreadable s → Unreadable sanInput (s .san) → verdictOn s ≡ five 3 0 0 0 0 → Ending s
-  subject : Fits s → ¬ RecordsUnreadable s → ¬ Unreadable sanInput (s .san) → Unreadable subjectInput (s .subject) → verdictOn s ≡ five 4 0 0 0 0 → Ending s
+pub data Ending (s : Inputs) : Type 0 where
+  long : TooLong s → verdictOn s ≡ numbers 7 0 0 0 0 → Ending s
+  records : Fits s → RecordsUnreadable s → verdictOn s ≡ numbers 6 0 0 0 0 → Ending s
+  san : Fits s → ¬ RecordsUnreadable s → Unreadable sanInput (s .san) → verdictOn s ≡ numbers 3 0 0 0 0 → Ending s
+  subject : Fits s → ¬ RecordsUnreadable s → ¬ Unreadable sanInput (s .san) → Unreadable subjectInput (s .subject) → verdictOn s ≡ numbers 4 0 0 0 0 → Ending s
   constraints :
       Fits s → ¬ RecordsUnreadable s → ¬ Unreadable sanInput (s .san) → ¬ Unreadable subjectInput (s .subject)
-      → Unreadable constraintsInput (s .constraints) → verdictOn s ≡ five 5 0 0 0 0 → Ending s
+      → Unreadable constraintsInput (s .constraints) → verdictOn s ≡ numbers 5 0 0 0 0 → Ending s
   read : (l : Names) → Read s l → Ending s
 
 -- the two are opposites, and one of them holds
-pub fits-not-long : (s : Strings) → Fits s → ¬ TooLong s
+pub fits-not-long : (s : Inputs) → Fits s → ¬ TooLong s
 fits-not-long s f (inl h) = omega arith
 fits-not-long s f (inr (inl h)) = omega arith
 fits-not-long s f (inr (inr (inl h))) = omega arith
 fits-not-long s f (inr (inr (inr h))) = omega arith
 
-module _ (s : Strings) where
+module _ (s : Inputs) where
   -- a string that is too long is seen so, and answered 7
-  long-seen : TooLong s → verdictOn s ≡ five 7 0 0 0 0
+  long-seen : TooLong s → verdictOn s ≡ numbers 7 0 0 0 0
+  unfolding verdictOn outcomeOn
   long-seen h = seven _ _ _ _ (or-four _ _ _ _ (go h))
     where
       go : TooLong s → (isLong (seenRecords (s .references)) ≡ true) ⊎ (isLong (seenSan (s .san)) ≡ true) ⊎ (isLong (seenSubject (s .subject)) ≡ true) ⊎ (isLong (seenConstraints (s .constraints)) ≡ true)
@@ -114,6 +116,7 @@ module _ (s : Strings) where
 
     -- records that are good, and what is left to judge
     past-records : goodRecords (s .references) ≡ true → Ending s
+    unfolding verdictOn outcomeOn
     past-records e = go (read-or-not san-sight (s .san) (f .san)) (read-or-not subject-sight (s .subject) (f .subject)) (read-or-not constraints-sight (s .constraints) (f .constraints))
       where
         a : isUnreadable (seenRecords (s .references)) ≡ false
@@ -129,7 +132,7 @@ module _ (s : Strings) where
             → Ending s
         go (inl b) U C = san f here b (three _ _ _ _ none-long a (unread san-sight (s .san) (f .san) b))
         go (inr b) (inl c) C = subject f here (λ h. h (b .0) (b .1)) c (four _ _ _ _ none-long a (not-unread san-sight (s .san) (f .san) b) (unread subject-sight (s .subject) (f .subject) c))
-        go (inr b) (inr c) (inl d) = constraints f here (λ h. h (b .0) (b .1)) (λ h. h (c .0) (c .1)) d (five-is _ _ _ _ none-long a (not-unread san-sight (s .san) (f .san) b) (not-unread subject-sight (s .subject) (f .subject) c) (unread constraints-sight (s .constraints) (f .constraints) d))
+        go (inr b) (inr c) (inl d) = constraints f here (λ h. h (b .0) (b .1)) (λ h. h (c .0) (c .1)) d (five _ _ _ _ none-long a (not-unread san-sight (s .san) (f .san) b) (not-unread subject-sight (s .subject) (f .subject) c) (unread constraints-sight (s .constraints) (f .constraints) d))
         go (inr b) (inr c) (inr d) =
             read (record { references = referencesOf (s .references); san = b .0; subject = c .0; constraints = d .0 })
             (record {
@@ -141,6 +144,7 @@ module _ (s : Strings) where
 
   -- every four strings end in one of these ways
   pub ending : Ending s
+  unfolding verdictOn outcomeOn
   ending = go long-or-fits
     where
       past : (f : Fits s) (t : Bool) → goodRecords (s .references) ≡ t → Ending s
@@ -153,10 +157,10 @@ module _ (s : Strings) where
 
 -- ---- where all are read
 
-module _ (s : Strings) (l : Names) (r : Read s l) where
+module _ (s : Inputs) (l : Names) (r : Read s l) where
   -- the names are what is judged
   pub outcome-of-names : outcomeOn s ≡ judged (l .references) (l .san) (l .subject) (l .constraints)
-  unfolding outcomeOf
+  unfolding outcomeOn outcomeOf
   outcome-of-names =
       rw (r .references-are, seen-listed san-sight (s .san) (l .san) (r .san-is), seen-listed subject-sight (s .subject) (l .subject) (r .subject-is), seen-listed constraints-sight (s .constraints) (l .constraints) (r .constraints-are))
 
@@ -182,7 +186,7 @@ module _ (s : Strings) (l : Names) (r : Read s l) where
           omega arith
 
 -- four strings have one list each
-pub read-unique : (s : Strings) (l m : Names) → Read s l → Read s m → l ≡ m
+pub read-unique : (s : Inputs) (l m : Names) → Read s l → Read s m → l ≡ m
 read-unique s l m r q =
     let a : l .references ≡ m .references = same-list (r .references-are) (q .references-are) in
     let b : l .san ≡ m .san = one-list san-sight (s .san) (l .san) (m .san) (r .san-is) (q .san-is) in

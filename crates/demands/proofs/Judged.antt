@@ -16,7 +16,7 @@ pairOf {i} pair = record { index = i; reference = pair .reference; presented = p
 
 -- how names are judged, and the outcome
 pub data Judged (l : Names) (o : Outcome) : Type 0 where
-  broken : (i : ℕ) → BreaksAt l i → ((k : ℕ) → BreaksAt l k → i ≤ k) → o ≡ Broken i → Judged l o
+  broken : (i : ℕ) → BreaksAt l i → ((k : ℕ) → BreaksAt l k → i ≤ k) → o ≡ Broken (record { presented = i }) → Judged l o
   matched :
       ((k : ℕ) → ¬ BreaksAt l k) → (i j : ℕ) (pair : PairAt l i j) → First l i j
       → o ≡ Matched (witnessOf (pairOf pair)) → Judged l o
@@ -41,7 +41,7 @@ module _ (l : Names) where
           let q = broken-some (l .constraints) 0 (l .san) e in
           let z = q .1 in
           let w : n ≡ q .0 = omega arith in
-          broken (q .0) (breaking (q .0) (q .2 .passes)) (λ k b. q .2 .first k (passing k b)) (simp (e, judged) (ap Broken w))
+          broken (q .0) (breaking (q .0) (q .2 .passes)) (λ k b. q .2 .first k (passing k b)) (simp (e, judged) (ap (λ n. Broken (record { presented = n })) w))
       go none (some w) e f =
           let q = pair-some (l .san) (l .subject) (l .constraints) 0 (l .references) f in
           let z : 0 + q .reference ≡ q .reference = omega arith in

@@ -23,6 +23,7 @@ use Rattle.reading.specs.Groups.{members, flat-groups}
 use Rattle.reading.specs.Answers.{no-some, and-parts}
 use Rattle.reading.specs.OneReading.{san-reading, subject-reading}
 use Rattle.demands.specs.Statements.{Names, MatchesAt, Kinds}
+use Rattle.demands.proofs.Places.{same-refl, same-eq, san-row, subject-row}
 
 -- ---- names beside their rows
 
@@ -55,67 +56,7 @@ module _ {A : Type 0} (text : A → Option (List ℕ)) where
   name-presented (r ∷ rows) (m ∷ names) e zero n f = (record { row = r; text = text m }, refl, ap text (Option·some-injective m n f))
   name-presented (r ∷ rows) (m ∷ names) e (suc j) n f = name-presented rows names (omega arith) j n f
 
--- ---- the numbers in the rows
-
--- the row of the j-th entry has the number j, as the entries count from i
-names-group : (at i : ℕ) (l : List GeneralName) (j : ℕ) (r : Row) → getElem? (rowsOfNames at i l) j ≡ some r → r .group ≡ i + j
-unfolding rowsOfNames
-names-group at i [] j r e = absurd (no-some e)
-names-group at i (n ∷ l) zero r e = let q = ap (λ x. x .group) (Option·some-injective _ r e) in omega arith
-names-group at i (n ∷ l) (suc j) r e = let q = names-group (at + length (writeName n)) (suc i) l j r e in omega arith
-
--- the j-th of a mapped list
-getElem?-map : {A B : Type 0} (f : A → B) (l : List A) (j : ℕ) → getElem? (map f l) j ≡ Option·map f (getElem? l j)
-getElem?-map f [] j = refl
-getElem?-map f (a ∷ l) zero = refl
-getElem?-map f (a ∷ l) (suc j) = getElem?-map f l j
-
-abbrev rowGroups : List Row → List ℕ
-rowGroups = map (λ r. r .group)
-
-abbrev memberGroups : List (Member Attribute) → List ℕ
-memberGroups = map (λ m. m .group)
-
--- rows and attributes have the same numbers: in one set, and in all
-set-groups : (at number : ℕ) (s : List Attribute) → rowGroups (rowsOfMembers writeAttribute attributeRow at number s) ≡ memberGroups (members number s)
-unfolding rowsOfMembers attributeRow
-set-groups at number [] = refl
-set-groups at number (a ∷ s) = ap {B = List ℕ} (number ∷_) (set-groups (at + length (writeAttribute a)) number s)
-
-flat-groups-of : (at : ℕ) (gs : List (Group Attribute)) → rowGroups (rowsOfGroups writeAttribute attributeRow at gs) ≡ memberGroups (flat gs)
-unfolding rowsOfGroups flat
-flat-groups-of at [] = refl
-flat-groups-of at (g ∷ gs) =
-    let content = run writeAttribute (g .members) in
-    simp (map-append, set-groups (at + header content) (g .number) (g .members), flat-groups-of (at + header content + length content) gs)
-
--- an attribute's row has the number of its set
-subject-groups : (l : List (Member Attribute)) → rowGroups (subjectGrammar .rows l) ≡ memberGroups l
-subject-groups l = flat-groups-of _ (groups l) ∙ ap memberGroups (flat-groups l)
-
--- so the j-th row has the number of the j-th attribute's set
-subject-group : (l : List (Member Attribute)) (j : ℕ) (r : Row) (a : Member Attribute) → getElem? (subjectGrammar .rows l) j ≡ some r → getElem? l j ≡ some a → r .group ≡ a .group
-subject-group l j r a e f =
-    Option·some-injective _ _ (sym (ap (Option·map (λ x. x .group)) e) ∙ sym (getElem?-map _ (subjectGrammar .rows l) j) ∙ ap (λ x. getElem? x j) (subject-groups l) ∙ getElem?-map _ l j ∙ ap (Option·map (λ x. x .group)) f)
-
 -- ---- texts
-
--- byte for byte the same is equal
-same-refl : (s : List ℕ) → same s s ≡ true
-unfolding same
-same-refl [] = refl
-same-refl (x ∷ s) = simp (eq-eqb x x refl, same-refl s)
-
-same-eq : (s t : List ℕ) → T (same s t) → s ≡ t
-unfolding same
-same-eq [] [] h = refl
-same-eq [] (y ∷ t) h = absurd h
-same-eq (x ∷ s) [] h = absurd h
-same-eq (x ∷ s) (y ∷ t) h =
-    let p = and-parts (eqb x y) (same s t) h in
-    let e : x ≡ y = eqb→eq x y (p .0) in
-    let f : s ≡ t = same-eq s t (p .1) in
-    cc
 
 module _ (f : List ℕ → Bool) where
   -- a test of the text that a name presents is a test of its content, where the name is of that form
@@ -177,13 +118,6 @@ any-none p (b ∷ l) u = go (p b) refl (any-none p l (λ i a g. u (suc i) a g))
     go true q ih = absurd (u 0 b refl (rw q tt))
     go false q ih = rw q ih
 
-any-true : {A : Type 0} (p : A → Bool) (l : List A) (i : ℕ) (a : A) → getElem? l i ≡ some a → T (p a) → any p l ≡ true
-any-true p l i a f h = go (any p l) refl
-  where
-    go : (t : Bool) → any p l ≡ t → any p l ≡ true
-    go true e = e
-    go false e = absurd (any-false p l e i a f h)
-
 module _ (l : Names) where
   -- a CN reference is held against the attributes, or against nothing
   cn-held : any blocksCn (l .san) ≡ false → presentedTo cnKind (l .san) (l .subject) ≡ presentedIn (cnText (l .subject)) (subjectGrammar .rows (l .subject)) (l .subject)
@@ -193,13 +127,6 @@ module _ (l : Names) where
   cn-none : any blocksCn (l .san) ≡ true → presentedTo cnKind (l .san) (l .subject) ≡ []
   unfolding presentedTo
   cn-none f = simp f
-
-  pub cn-blocked : (i : ℕ) (entry : GeneralName) → getElem? (l .san) i ≡ some entry → T (blocksCn entry) → presentedTo cnKind (l .san) (l .subject) ≡ []
-  cn-blocked i entry f h = cn-none (any-true blocksCn (l .san) i entry f h)
-
-  pub cn-counts : ((i : ℕ) (entry : GeneralName) → getElem? (l .san) i ≡ some entry → ¬ T (blocksCn entry))
-      → presentedTo cnKind (l .san) (l .subject) ≡ presentedIn (cnText (l .subject)) (subjectGrammar .rows (l .subject)) (l .subject)
-  cn-counts u = cn-held (any-none blocksCn (l .san) u)
 
 -- ---- what a reference matches
 
@@ -255,7 +182,7 @@ module _ (l : Names) (r : Reference) (j : ℕ) where
   pub entry-index : (m : MatchesAt l r j) → r .kind ≢ cnKind → (m .presented .row .group ≡ j) × (getElem? (sanGrammar .rows (l .san)) j ≡ some (m .presented .row))
   entry-index m h =
       let i = entry-is h m in
-      let g = names-group _ 0 (l .san) j (m .presented .row) (i .row-at) in
+      let g = san-row (l .san) j (i .name) (m .presented .row) (i .name-at) (i .row-at) .group-is in
       (omega arith, i .row-at)
 
   pub set-index : (m : MatchesAt l r j) → r .kind ≡ cnKind
@@ -263,7 +190,7 @@ module _ (l : Names) (r : Reference) (j : ℕ) where
       × (getElem? (subjectGrammar .rows (l .subject)) j ≡ some (m .presented .row))
   set-index m e =
       let i = attribute-is e m in
-      (i .name, i .name-at, subject-group (l .subject) j (m .presented .row) (i .name) (i .row-at) (i .name-at), i .row-at)
+      (i .name, i .name-at, subject-row (l .subject) j (i .name) (m .presented .row) (i .name-at) (i .row-at) .group-is, i .row-at)
 
   -- ---- by kind
 

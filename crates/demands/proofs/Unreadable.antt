@@ -9,13 +9,15 @@ use lib.Dec.{T}
 use Rattle.rules.specs.Numbers.{recordsLimit}
 use Rattle.rules.specs.Records.{goodRecords}
 use Rattle.rules.specs.San
+use Rattle.rules.specs.Verdict.{numbers}
 use Rattle.rules.specs.Seen.{unreadable, listed, sanInput, subjectInput, constraintsInput, Sees}
 use Rattle.rules.proofs.Marked.{j, jNames}
 use Rattle.reading.specs.Reader
 use Rattle.reading.specs.Strings
 use Rattle.reading.specs.Views
 use Rattle.reading.specs.Views.{seenSan, seenSubject, seenConstraints, sees-san, sees-subject, sees-constraints}
-use Rattle.demands.specs.Statements.{Strings, verdictOn, five, Unreadable}
+use Rattle.reading.specs.Calls.{Inputs, inputs, verdictOn}
+use Rattle.demands.specs.Statements.{Unreadable}
 use Rattle.demands.proofs.Endings.{fits-not-long}
 use Rattle.demands.proofs.Demands.{demand1}
 
@@ -58,39 +60,39 @@ subject-j = sees-subject j
 
 module _ (references : List ℕ) (fits : length references ≤ recordsLimit) (good : T (goodRecords references)) where
   -- the examples' certificate, but for the string that is named
-  abbrev certificate : List ℕ → List ℕ → List ℕ → Strings
-  certificate san subject constraints = record { references = references; san = san; subject = subject; constraints = constraints }
+  abbrev certificate : List ℕ → List ℕ → List ℕ → Inputs
+  certificate san subject constraints = inputs san subject constraints references
 
   readable : ¬ (¬ T (goodRecords references))
   readable h = h good
 
   -- an answer but 0 and 2 is all there is
-  only : (s : Strings) (n : ℕ) → verdictOn s .answer ≡ n → 2 < n → verdictOn s ≡ five n 0 0 0 0
-  only s n e h = demand1 .verdict s .zeros (λ z. omega arith) (λ z. omega arith) ∙ ap (λ x. five x 0 0 0 0) e
+  only : (s : Inputs) (n : ℕ) → verdictOn s .answer ≡ n → 2 < n → verdictOn s ≡ numbers n 0 0 0 0
+  only s n e h = demand1 .verdict s .zeros (λ z. omega arith) (λ z. omega arith) ∙ ap (λ x. numbers x 0 0 0 0) e
 
   -- a SAN that is unreadable beside J is 3
-  unread-san : (san : List ℕ) → Sees sanInput san unreadable → verdictOn (certificate san j []) ≡ five 3 0 0 0 0
+  unread-san : (san : List ℕ) → Sees sanInput san unreadable → verdictOn (certificate san j []) ≡ numbers 3 0 0 0 0
   unread-san san u =
       let s = certificate san j [] in
       let short = fits-not-long s (record { references = fits; san = u .0; subject = omega arith; constraints = omega arith }) in
       only s 3 (demand1 .verdict s .order .1 .1 .0 .1 (u .1, (readable, (short, tt)))) (omega arith)
 
-  pub long-form-answer : verdictOn (certificate longForm j []) ≡ five 3 0 0 0 0
+  pub long-form-answer : verdictOn (certificate longForm j []) ≡ numbers 3 0 0 0 0
   long-form-answer = unread-san longForm san-long-form
 
-  pub no-name-answer : verdictOn (certificate noElement j []) ≡ five 3 0 0 0 0
+  pub no-name-answer : verdictOn (certificate noElement j []) ≡ numbers 3 0 0 0 0
   no-name-answer = unread-san noElement san-no-name
 
   absent-san : ¬ Unreadable sanInput []
   absent-san u = u [] (inr (tt, refl, refl))
 
-  pub empty-subject-answer : verdictOn (certificate [] [] []) ≡ five 4 0 0 0 0
+  pub empty-subject-answer : verdictOn (certificate [] [] []) ≡ numbers 4 0 0 0 0
   empty-subject-answer =
       let s = certificate [] [] [] in
       let short = fits-not-long s (record { references = fits; san = omega arith; subject = omega arith; constraints = omega arith }) in
       only s 4 (demand1 .verdict s .order .1 .1 .1 .0 .1 (subject-empty .1, (absent-san, (readable, (short, tt))))) (omega arith)
 
-  pub no-side-answer : verdictOn (certificate [] j noElement) ≡ five 5 0 0 0 0
+  pub no-side-answer : verdictOn (certificate [] j noElement) ≡ numbers 5 0 0 0 0
   no-side-answer =
       let s = certificate [] j noElement in
       let short = fits-not-long s (record { references = fits; san = omega arith; subject = omega arith; constraints = omega arith }) in

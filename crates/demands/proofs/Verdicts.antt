@@ -6,49 +6,50 @@ use mathlib.Core.List.{List, [], _∷_}
 use native.Mathlib.Omega.{arith}
 use Rattle.rules.specs.declared.Verdict.{Verdict}
 use Rattle.rules.specs.Matching.{Presented}
-use Rattle.rules.specs.Verdict.{witnessOf, numbersOf, verdictOf}
+use Rattle.rules.specs.Verdict.{witnessOf, numbers, numbersOf}
 use Rattle.rules.specs.declared.Outcome.the-variants.{Broken, Matched, Mismatched}
-use Rattle.demands.specs.Statements.{Strings, verdictOn, outcomeOn, five, Names, Read, BreaksAt, PairAt, Answer, when, verdictAnswers, Verdicts}
+use Rattle.reading.specs.Calls.{Inputs, outcomeOn, verdictOn}
+use Rattle.demands.specs.Statements.{Names, Read, BreaksAt, PairAt, Answer, when, verdictAnswers, Verdicts}
 use Rattle.demands.proofs.Order.{Chosen, each-exactly}
 use Rattle.demands.proofs.Endings.{Ending, long, records, san, subject, constraints, read, ending, fits-not-long, outcome-of-names, read-fits, read-records, read-unique}
 use Rattle.demands.proofs.Judged.{Judged, broken, matched, mismatched, judge, pairOf}
 
 -- "the witnessing pair, and its element's place"
 abbrev pub pairNumbers : ℕ → Presented → Verdict
-pairNumbers i p = five 0 i (p .row .group) (p .row .start) (p .row .length)
+pairNumbers i p = numbers 0 i (p .row .group) (p .row .start) (p .row .length)
 
--- the answer of five numbers
-pub answer : {v : Verdict} {a b c d e : ℕ} → v ≡ five a b c d e → v .answer ≡ a
+-- the answer of numbers numbers
+pub answer : {v : Verdict} {a b c d e : ℕ} → v ≡ numbers a b c d e → v .answer ≡ a
 answer e = ap (λ x. x .answer) e
 
 -- the numbers of each outcome where all is read
-module _ (s : Strings) where
-  pub is-broken : {i : ℕ} → outcomeOn s ≡ Broken i → verdictOn s ≡ five 2 0 i 0 0
-  unfolding verdictOf numbersOf
+module _ (s : Inputs) where
+  pub is-broken : {i : ℕ} → outcomeOn s ≡ Broken (record { presented = i }) → verdictOn s ≡ numbers 2 0 i 0 0
+  unfolding verdictOn numbersOf
   is-broken e = ap numbersOf e
 
   pub is-matched : {l : Names} {i j : ℕ} (p : PairAt l i j) → outcomeOn s ≡ Matched (witnessOf (pairOf p)) → verdictOn s ≡ pairNumbers i (p .match .presented)
-  unfolding verdictOf numbersOf witnessOf
+  unfolding verdictOn numbersOf witnessOf
   is-matched p e = ap numbersOf e
 
-  pub is-mismatched : outcomeOn s ≡ Mismatched → verdictOn s ≡ five 1 0 0 0 0
-  unfolding verdictOf numbersOf
+  pub is-mismatched : outcomeOn s ≡ Mismatched → verdictOn s ≡ numbers 1 0 0 0 0
+  unfolding verdictOn numbersOf
   is-mismatched e = ap numbersOf e
 
-module _ (s : Strings) (l : Names) (r : Read s l) where
+module _ (s : Inputs) (l : Names) (r : Read s l) where
   -- how the names of these strings are judged
   pub judged-on : Judged l (outcomeOn s)
   judged-on = subst (Judged l) (sym (outcome-of-names s l r)) (judge l)
 
 -- the rows of the table that are about names
-abbrev nameAnswers : Strings → List Answer
+abbrev nameAnswers : Inputs → List Answer
 nameAnswers s =
     when 2 ((l : Names) × Read s l × (i : ℕ) × BreaksAt l i)
     ∷ when 0 ((l : Names) × Read s l × (i : ℕ) × (j : ℕ) × PairAt l i j)
     ∷ when 1 Unit
     ∷ []
 
-module _ (s : Strings) (l : Names) (r : Read s l) where
+module _ (s : Inputs) (l : Names) (r : Read s l) where
   -- where names are read, no refusal before 2 is given
   past-refusals : verdictOn s .answer ≤ 2 → Chosen (nameAnswers s) (verdictOn s .answer) → Chosen (verdictAnswers s) (verdictOn s .answer)
   past-refusals h c =
@@ -89,7 +90,7 @@ module _ (s : Strings) (l : Names) (r : Read s l) where
       let a = answer (is-mismatched s e) in
       past-refusals (omega arith) (inr (unbroken u, omega arith, inr (unpaired n, omega arith, inl (tt, a, tt))))
 
-chosen : (s : Strings) → Ending s → Chosen (verdictAnswers s) (verdictOn s .answer)
+chosen : (s : Inputs) → Ending s → Chosen (verdictAnswers s) (verdictOn s .answer)
 chosen s (long h e) =
     let a = answer e in
     inl (h, a, omega arith)
@@ -109,12 +110,12 @@ chosen s (read l r) = chosen-names s l r (judged-on s l r)
 
 -- ---- the statements of names
 
-module _ (s : Strings) (l : Names) (r : Read s l) where
+module _ (s : Inputs) (l : Names) (r : Read s l) where
   -- answer 2 tells the first entry that breaks the constraints
-  pub first-broken : verdictOn s .answer ≡ 2 → (i : ℕ) × (verdictOn s ≡ five 2 0 i 0 0) × BreaksAt l i × ((k : ℕ) → BreaksAt l k → i ≤ k)
+  pub first-broken : verdictOn s .answer ≡ 2 → (i : ℕ) × (verdictOn s ≡ numbers 2 0 i 0 0) × BreaksAt l i × ((k : ℕ) → BreaksAt l k → i ≤ k)
   first-broken = go (judged-on s l r)
     where
-      go : Judged l (outcomeOn s) → verdictOn s .answer ≡ 2 → (i : ℕ) × (verdictOn s ≡ five 2 0 i 0 0) × BreaksAt l i × ((k : ℕ) → BreaksAt l k → i ≤ k)
+      go : Judged l (outcomeOn s) → verdictOn s .answer ≡ 2 → (i : ℕ) × (verdictOn s ≡ numbers 2 0 i 0 0) × BreaksAt l i × ((k : ℕ) → BreaksAt l k → i ≤ k)
       go (broken i b f e) h = (i, is-broken s e, b, f)
       go (matched u i j p f e) h = let a = answer (is-matched s p e) in absurd (omega arith)
       go (mismatched u n e) h = let a = answer (is-mismatched s e) in absurd (omega arith)
@@ -128,7 +129,7 @@ module _ (s : Strings) (l : Names) (r : Read s l) where
       go (matched u i j p f e) = absurd (u k b)
       go (mismatched u n e) = absurd (u k b)
 
-  -- where none does, 0 and 1 tell whether a pair matches
+  -- where none does, 0 tells whether a pair matches
   pub match-exactly : ((k : ℕ) → ¬ BreaksAt l k) → (verdictOn s .answer ≡ 0 ↔ (i : ℕ) × (j : ℕ) × PairAt l i j)
   match-exactly whole = go (judged-on s l r)
     where
@@ -137,28 +138,20 @@ module _ (s : Strings) (l : Names) (r : Read s l) where
       go (matched u i j p f e) = (λ h. (i, j, p), λ h. answer (is-matched s p e))
       go (mismatched u n e) = let a = answer (is-mismatched s e) in (λ h. absurd (omega arith), λ h. absurd (n (h .0) (h .1) (h .2)))
 
-  pub mismatch-exactly : ((k : ℕ) → ¬ BreaksAt l k) → (verdictOn s .answer ≡ 1 ↔ ((i j : ℕ) → ¬ PairAt l i j))
-  mismatch-exactly whole = go (judged-on s l r)
-    where
-      go : Judged l (outcomeOn s) → (verdictOn s .answer ≡ 1 ↔ ((i j : ℕ) → ¬ PairAt l i j))
-      go (broken i b f e) = absurd (whole i b)
-      go (matched u i j p f e) = let a = answer (is-matched s p e) in (λ h. absurd (omega arith), λ h. absurd (h i j p))
-      go (mismatched u n e) = (λ h. n, λ h. answer (is-mismatched s e))
-
 -- ---- the other four numbers of a refusal and of a mismatch
 
-zeros : (s : Strings) → verdictOn s .answer ≢ 0 → verdictOn s .answer ≢ 2 → verdictOn s ≡ five (verdictOn s .answer) 0 0 0 0
+zeros : (s : Inputs) → verdictOn s .answer ≢ 0 → verdictOn s .answer ≢ 2 → verdictOn s ≡ numbers (verdictOn s .answer) 0 0 0 0
 zeros s no-match unbroken = go (ending s)
   where
-    same : (n : ℕ) → verdictOn s ≡ five n 0 0 0 0 → verdictOn s ≡ five (verdictOn s .answer) 0 0 0 0
-    same n e = e ∙ ap (λ x. five x 0 0 0 0) (sym (answer e))
+    same : (n : ℕ) → verdictOn s ≡ numbers n 0 0 0 0 → verdictOn s ≡ numbers (verdictOn s .answer) 0 0 0 0
+    same n e = e ∙ ap (λ x. numbers x 0 0 0 0) (sym (answer e))
 
-    judging : (l : Names) → Judged l (outcomeOn s) → verdictOn s ≡ five (verdictOn s .answer) 0 0 0 0
+    judging : (l : Names) → Judged l (outcomeOn s) → verdictOn s ≡ numbers (verdictOn s .answer) 0 0 0 0
     judging l (broken i b f e) = absurd (unbroken (answer (is-broken s e)))
     judging l (matched u i j p f e) = absurd (no-match (answer (is-matched s p e)))
     judging l (mismatched u n e) = same 1 (is-mismatched s e)
 
-    go : Ending s → verdictOn s ≡ five (verdictOn s .answer) 0 0 0 0
+    go : Ending s → verdictOn s ≡ numbers (verdictOn s .answer) 0 0 0 0
     go (long h e) = same 7 e
     go (records f h e) = same 6 e
     go (san f g h e) = same 3 e
@@ -166,7 +159,7 @@ zeros s no-match unbroken = go (ending s)
     go (constraints f g i k h e) = same 5 e
     go (read l r) = judging l (judged-on s l r)
 
-pub verdicts : (s : Strings) → Verdicts s
+pub verdicts : (s : Inputs) → Verdicts s
 verdicts s = record {
   order = each-exactly [] (verdictAnswers s) (verdictOn s .answer) tt (chosen s (ending s));
   zeros = zeros s;

@@ -1,5 +1,5 @@
 -- The witness's text: the part of the certificate's bytes that is handed back is the text that matched.
-use Prim.Native.Nat.{ℕ, _+_, _-_}
+use Prim.Native.Nat.{ℕ, _+_, _-_, _≤_}
 use mathlib.Core.Path.{_≡_, refl, sym, ap, subst, _∙_}
 use mathlib.Core.Logic.{_≢_, inl, inr}
 use mathlib.Core.Bool.{Bool, true, false, cond, _&&_}
@@ -18,16 +18,17 @@ use Rattle.rules.specs.San.{GeneralName, plain, other, srvOid, tagOf, contentOf
 use Rattle.rules.specs.Subject.{Attribute, writeAttribute, isCn, cnTag, subjectGrammar}
 use Rattle.rules.specs.Seen.{sanInput, subjectInput, Reads}
 use Rattle.rules.specs.Matching.{Presented, matches, if-some, textMatches, taggedText, srvText, entryText, soleCn, cnText}
-use Rattle.rules.specs.Verdict.{textOf, textPlace, witnessOf, numbersOf, verdictOf, witnessText, witnessPlace}
+use Rattle.rules.specs.Verdict.{textOf, textPlace, past, witnessOf, numbersOf, witnessPart, witnessText, witnessPlace}
 use Rattle.rules.specs.declared.Row.{Row}
 use Rattle.rules.specs.declared.Outcome.{Outcome}
 use Rattle.rules.specs.declared.Outcome.the-variants.{Refused, Broken, Matched, Mismatched}
 use Rattle.reading.specs.Answers.{no-some}
-use Rattle.demands.specs.Statements.{Strings, verdictOn, outcomeOn, Names, Read, MatchesAt, PairAt, First}
-use Rattle.demands.proofs.Places.{Covers, covered-at, san-covered, subject-covered}
+use Rattle.reading.specs.Calls.{Inputs, outcomeOn, verdictOn, witnessTextOn, witnessPartOn, witnessPlaceOn}
+use Rattle.demands.specs.Statements.{Names, Read, MatchesAt, PairAt, First, Reported, sanString, subjectString}
+use Rattle.demands.proofs.Places.{san-rows, subject-rows}
 use Rattle.demands.proofs.Presented.{entry-is, attribute-is}
-use Rattle.demands.proofs.Judged.{Judged, broken, matched, mismatched}
-use Rattle.demands.proofs.Verdicts.{answer, is-broken, is-matched, is-mismatched, judged-on, pairNumbers}
+use Rattle.demands.proofs.Judged.{Judged, broken, matched, mismatched, pairOf}
+use Rattle.demands.proofs.Verdicts.{answer, is-broken, is-matched, is-mismatched, judged-on}
 
 -- ---- a text at the end of an element
 
@@ -47,18 +48,20 @@ ends-element tag c t h = ends-append (tag ∷ lengthBytes (length c)) c t h
 ends-self : (t : List ℕ) → EndsIn t t
 ends-self t = record { front = []; is = refl }
 
--- the end of what a row covers, found again by its length
-end-of : (b e t : List ℕ) (r : Row) → Covers b e r → EndsIn e t → part b (r .start + r .length - length t) (length t) ≡ t
-unfolding part
-end-of b e t r c h =
-    let rest = drop (r .length) (drop (r .start) b) in
-    let k : drop (r .start) b ≡ h .front ++ (t ++ rest) =
-    sym (take-append-drop (r .length) (drop (r .start) b)) ∙ ap (λ x. x ++ rest) (c .place ∙ h .is) ∙ append-assoc (h .front) t rest in
-    let n : r .length ≡ length (h .front) + length t = c .size ∙ ap length (h .is) ∙ length-append (h .front) t in
-    let m : r .start + r .length - length t ≡ r .start + length (h .front) = omega arith in
-    ap (λ x. take (length t) (drop x b)) m
-    ∙ ap (take (length t)) (sym (drop-drop (length (h .front)) (r .start) b) ∙ ap (drop (length (h .front))) k ∙ drop-at (h .front) (t ++ rest) (length (h .front)) refl)
-    ∙ take-at t rest (length t) refl
+-- where a text is that ends an element, by the element's row
+module _ (b e t : List ℕ) (front behind : List ℕ) (r : Row) (size : r .length ≡ length e) (start : r .start ≡ length front) (bytes : b ≡ front ++ (e ++ behind)) (h : EndsIn e t) where
+  pub text-size : length t ≤ r .length
+  text-size = let n = size ∙ ap length (h .is) ∙ length-append (h .front) t in omega arith
+
+  pub text-part : part b (r .start + r .length - length t) (length t) ≡ t
+  unfolding part
+  text-part =
+      let n = size ∙ ap length (h .is) ∙ length-append (h .front) t in
+      let m : length (front ++ h .front) ≡ r .start + r .length - length t = length-append front (h .front) ∙ omega arith in
+      let k : b ≡ (front ++ h .front) ++ (t ++ behind) = bytes ∙ ap (λ x. front ++ (x ++ behind)) (h .is) ∙ simp append-assoc in
+      ap (λ x. take (length t) (drop (r .start + r .length - length t) x)) k
+      ∙ ap (take (length t)) (drop-at (front ++ h .front) (t ++ behind) (r .start + r .length - length t) m)
+      ∙ take-at t behind (length t) refl
 
 -- ---- the texts of names stand at the end
 
@@ -120,80 +123,102 @@ text-some r p h = go (p .text) refl h
     go none e h = absurd h
     go (some t) e h = (t, e)
 
--- the part at a presented identifier's text is that text
-placed : (b e t : List ℕ) (p : Presented) → p .text ≡ some t → Covers b e (p .row) → EndsIn e t → p .text ≡ some (part b (textPlace p .start) (textPlace p .length))
-placed b e t p q c h =
-    let k : textOf p ≡ t = ap (λ o. Option·getD o []) q in
-    q ∙ ap some (sym (ap (λ x. part b (p .row .start + p .row .length - length x) (length x)) k ∙ end-of b e t (p .row) c h))
+-- a presented identifier's text lies in these bytes, and ends where its element ends
+pub record Lies (b : List ℕ) (p : Presented) : Type 0 where
+  pub text-is : p .text ≡ some (part b (textPlace p .start) (textPlace p .length))
+  pub part-is : part b (textPlace p .start) (textPlace p .length) ≡ textOf p
+  pub ends : textPlace p .start + textPlace p .length ≡ p .row .start + p .row .length
 
-module _ (s : Strings) (l : Names) (read : Read s l) (r : Reference) (j : ℕ) (m : MatchesAt l r j) where
+-- so it does where the row is that of its element
+lies : (b e t front behind : List ℕ) (p : Presented) → p .text ≡ some t
+    → p .row .length ≡ length e → p .row .start ≡ length front → b ≡ front ++ (e ++ behind) → EndsIn e t → Lies b p
+lies b e t front behind p q size start bytes h =
+    let k : textOf p ≡ t = ap (λ o. Option·getD o []) q in
+    let n = ap length k in
+    let c = text-size b e t front behind (p .row) size start bytes h in
+    let w = ap (λ x. part b (p .row .start + p .row .length - length x) (length x)) k ∙ text-part b e t front behind (p .row) size start bytes h in
+    record { text-is = q ∙ ap some (sym w); part-is = w ∙ sym k; ends = omega arith }
+
+module _ (s : Inputs) (l : Names) (read : Read s l) (r : Reference) (j : ℕ) (m : MatchesAt l r j) where
+  abbrev t : List ℕ
+  t = text-some r (m .presented) (m .matched) .0
+
+  q : m .presented .text ≡ some t
+  q = text-some r (m .presented) (m .matched) .1
+
   -- a text of an entry lies in the SAN, one of a CN in the subject
-  in-san : r .kind ≢ cnKind → m .presented .text ≡ some (part (s .san) (textPlace (m .presented) .start) (textPlace (m .presented) .length))
+  in-san : r .kind ≢ cnKind → Lies (s .san) (m .presented)
   in-san h = go (read .san-is .1)
     where
-      t : List ℕ
-      t = text-some r (m .presented) (m .matched) .0
-
-      go : Reads sanInput (s .san) (l .san) → m .presented .text ≡ some (part (s .san) (textPlace (m .presented) .start) (textPlace (m .presented) .length))
+      go : Reads sanInput (s .san) (l .san) → Lies (s .san) (m .presented)
       go (inr absent) = absurd (no-some (subst (λ x. getElem? x j ≡ some (entry-is l r j h m .name)) (absent .2) (entry-is l r j h m .name-at)))
       go (inl w) =
           let i = entry-is l r j h m in
-          let q = text-some r (m .presented) (m .matched) .1 in
-          placed (s .san) (writeName (i .name)) t (m .presented) q
-          (covered-at (s .san) writeName (l .san) (sanGrammar .rows (l .san)) (san-covered (s .san) (l .san) w) j (i .name) (m .presented .row) (i .name-at) (i .row-at))
+          let c = san-rows (s .san) (l .san) w j (i .name) (m .presented .row) (i .name-at) (i .row-at) in
+          lies (s .san) (writeName (i .name)) t (sanString .front (l .san) j (i .name)) (c .behind) (m .presented) q (c .length-is) (c .start-is) (c .bytes-are)
           (entry-ends (r .kind) (i .name) t (sym (i .text-is) ∙ q))
 
-  in-subject : r .kind ≡ cnKind → m .presented .text ≡ some (part (s .subject) (textPlace (m .presented) .start) (textPlace (m .presented) .length))
+  in-subject : r .kind ≡ cnKind → Lies (s .subject) (m .presented)
   in-subject h = go (read .subject-is .1)
     where
-      t : List ℕ
-      t = text-some r (m .presented) (m .matched) .0
-
-      go : Reads subjectInput (s .subject) (l .subject) → m .presented .text ≡ some (part (s .subject) (textPlace (m .presented) .start) (textPlace (m .presented) .length))
+      go : Reads subjectInput (s .subject) (l .subject) → Lies (s .subject) (m .presented)
       go (inr absent) = absurd (absent .0)
       go (inl w) =
           let i = attribute-is l r j h m in
-          let q = text-some r (m .presented) (m .matched) .1 in
-          placed (s .subject) (writeAttribute (i .name .value)) t (m .presented) q
-          (covered-at (s .subject) (λ x. writeAttribute (x .value)) (l .subject) (subjectGrammar .rows (l .subject)) (subject-covered (s .subject) (l .subject) w) j (i .name) (m .presented .row) (i .name-at) (i .row-at))
+          let c = subject-rows (s .subject) (l .subject) w j (i .name) (m .presented .row) (i .name-at) (i .row-at) in
+          lies (s .subject) (writeAttribute (i .name .value)) t (subjectString .front (l .subject) j (i .name)) (c .behind) (m .presented) q (c .length-is) (c .start-is) (c .bytes-are)
           (cn-ends (l .subject) (i .name) t (sym (i .text-is) ∙ q))
 
-  pub text-handed-back : m .presented .text ≡ some (part (cond (eqb (r .kind) cnKind) (s .subject) (s .san)) (textPlace (m .presented) .start) (textPlace (m .presented) .length))
-  text-handed-back = go (eqb (r .kind) cnKind) refl
+  pub text-lies : Lies (cond (eqb (r .kind) cnKind) (s .subject) (s .san)) (m .presented)
+  text-lies = go (eqb (r .kind) cnKind) refl
     where
-      go : (b : Bool) → eqb (r .kind) cnKind ≡ b → m .presented .text ≡ some (part (cond b (s .subject) (s .san)) (textPlace (m .presented) .start) (textPlace (m .presented) .length))
+      go : (b : Bool) → eqb (r .kind) cnKind ≡ b → Lies (cond b (s .subject) (s .san)) (m .presented)
       go true e = in-subject (eqb-true _ _ e)
       go false e = in-san (eqb-false _ _ e)
 
--- the first pair: its numbers, and its text
+-- what is reported of a pair
+reported : (s : Inputs) {l : Names} {i j : ℕ} (p : PairAt l i j) → outcomeOn s ≡ Matched (witnessOf (pairOf p))
+    → Lies (cond (eqb (p .reference .kind) cnKind) (s .subject) (s .san)) (p .match .presented) → Reported s i (p .reference) (p .match .presented)
+unfolding witnessTextOn witnessPartOn witnessPlaceOn witnessText witnessPart witnessPlace witnessOf
+reported s {l} {i} {j} p e h =
+    let b = cond (eqb (p .reference .kind) cnKind) (s .subject) (s .san) in
+    let place = textPlace (p .match .presented) in
+    let text : witnessTextOn s ≡ part b (place .start) (place .length) = ap (witnessText (s .san) (s .subject)) e in
+    let at : witnessPartOn s ≡ place = ap witnessPart e in
+    record {
+      numbers-are = is-matched s p e;
+      text-is = h .text-is ∙ ap some (sym text);
+      part-is = ap (λ x. part b (x .start) (x .length)) at ∙ sym text;
+      place-is = λ san subject. ap (witnessPlace san subject) e ∙ ap (λ x. past (cond (eqb (p .reference .kind) cnKind) subject san) (x .start)) (sym at);
+      length-is = ap (λ x. x .length) at ∙ sym (ap length (text ∙ h .part-is));
+      ends = ap (λ x. x .start + x .length) at ∙ h .ends;
+    }
+
+-- the first pair, and what is reported of it
 pub first-pair :
-    (s : Strings) (l : Names) → Read s l → verdictOn s .answer ≡ 0
-    → (i : ℕ) × (j : ℕ) × (pair : PairAt l i j) × First l i j × (verdictOn s ≡ pairNumbers i (pair .match .presented))
-    × (pair .match .presented .text ≡ some (witnessText (s .san) (s .subject) (outcomeOn s)))
-unfolding witnessText witnessOf
+    (s : Inputs) (l : Names) → Read s l → verdictOn s .answer ≡ 0
+    → (i : ℕ) × (j : ℕ) × (pair : PairAt l i j) × First l i j × Reported s i (pair .reference) (pair .match .presented)
 first-pair s l read a = go (judged-on s l read)
   where
     go : Judged l (outcomeOn s)
-        → (i : ℕ) × (j : ℕ) × (pair : PairAt l i j) × First l i j × (verdictOn s ≡ pairNumbers i (pair .match .presented))
-        × (pair .match .presented .text ≡ some (witnessText (s .san) (s .subject) (outcomeOn s)))
+        → (i : ℕ) × (j : ℕ) × (pair : PairAt l i j) × First l i j × Reported s i (pair .reference) (pair .match .presented)
     go (broken i b f e) = let z = answer (is-broken s e) in absurd (omega arith)
     go (mismatched u n e) = let z = answer (is-mismatched s e) in absurd (omega arith)
-    go (matched u i j p f e) =
-        let text = text-handed-back s l read (p .reference) j (p .match) in
-        (i, j, p, f, is-matched s p e, text ∙ ap (λ o. some (witnessText (s .san) (s .subject) o)) (sym e))
+    go (matched u i j p f e) = (i, j, p, f, reported s p e (text-lies s l read (p .reference) j (p .match)))
 
 -- ---- no witness
 
 -- no outcome but a match has a text, and its place is the SAN's
-none-of : (o : Outcome) → numbersOf o .answer ≢ 0 → (san subject : List ℕ) → (witnessText san subject o ≡ []) × ((at at′ : ℕ × ℕ) → witnessPlace at at′ o ≡ at)
-unfolding numbersOf witnessText witnessPlace
-none-of (Refused n) h san subject = (refl, λ at at′. refl)
-none-of (Broken i) h san subject = (refl, λ at at′. refl)
+none-of : (o : Outcome) → numbersOf o .answer ≢ 0 → (san subject : List ℕ)
+    → (witnessText san subject o ≡ []) × (witnessPart o ≡ record { start = 0; length = 0 }) × ((at at′ : ℕ × ℕ) → witnessPlace at at′ o ≡ at)
+unfolding numbersOf witnessText witnessPart witnessPlace
+none-of (Refused n) h san subject = (refl, refl, λ at at′. refl)
+none-of (Broken b) h san subject = (refl, refl, λ at at′. refl)
 none-of (Matched w) h san subject = absurd (h refl)
-none-of Mismatched h san subject = (refl, λ at at′. refl)
+none-of Mismatched h san subject = (refl, refl, λ at at′. refl)
 
 pub no-witness :
-    (s : Strings) → verdictOn s .answer ≢ 0
-    → (witnessText (s .san) (s .subject) (outcomeOn s) ≡ []) × ((san subject : ℕ × ℕ) → witnessPlace san subject (outcomeOn s) ≡ san)
-unfolding verdictOf
+    (s : Inputs) → verdictOn s .answer ≢ 0
+    → (witnessTextOn s ≡ []) × (witnessPartOn s ≡ record { start = 0; length = 0 }) × ((san subject : ℕ × ℕ) → witnessPlaceOn s san subject ≡ san)
+unfolding verdictOn witnessTextOn witnessPartOn witnessPlaceOn
 no-witness s h = none-of (outcomeOn s) h (s .san) (s .subject)

@@ -1,89 +1,128 @@
--- The three demands on the name check, as statements about the very definitions that the public contracts cite.
--- Each field stands under the sentence that it says, of the demand or of document 01; proofs/Demands.antt proves them all.
-use Prim.Native.Nat.{ℕ, _≤_, _<_}
+-- The three demands on the name check, as statements about the very names that the public contracts cite: `outcomeOn`,
+-- `verdictOn` and their fellows, `listingOn`, `tableOn` (crates/reading/specs/Calls.antt) and `shown`. Each field stands under the
+-- sentence that it says, of the demand or of document 01; proofs/Demands.antt proves them all.
+use Prim.Native.Nat.{ℕ, zero, suc, _+_, _-_, _%_, _≤_, _<_}
 use mathlib.Core.Path.{_≡_}
 use mathlib.Core.Logic.{_↔_, _≢_, _⊎_}
+use mathlib.Core.Bool.{cond}
 use mathlib.Core.Option.{some}
-use mathlib.Core.List.{List, [], _∷_}
+use mathlib.Core.List.{List, [], _∷_, _++_}
 use lib.ListN.{length, take, drop, getElem?}
-use lib.Dec.{T}
+use lib.Dec.{T, eqb, ltb}
 use Rattle.rules.specs.Bytes.{part}
 use Rattle.rules.specs.Numbers.{sanLimit, subjectLimit, constraintsLimit, recordsLimit, dnsKind, srvKind, uriKind, cnKind}
 use Rattle.rules.specs.Numbers.{sanUnreadable, subjectUnreadable, constraintsUnreadable}
 use Rattle.rules.specs.Names.{dnsMatches, srvMatches, uriMatches}
 use Rattle.rules.specs.Records.{Reference, goodRecords, shown}
-use Rattle.rules.specs.Der.{Member, Writes}
+use Rattle.rules.specs.Der.{Member, Group, groups, lengthBytes, element, run, Writes}
 use Rattle.rules.specs.San.{GeneralName, plain, other, srvOid, writeName}
-use Rattle.rules.specs.Subject.{Attribute, isCn, cnTag, writeAttribute}
+use Rattle.rules.specs.Subject.{Attribute, isCn, cnOid, cnTag, writeAttribute, writeSet}
+use Rattle.rules.specs.Constraints.{writeSubtree, writeSide}
 use Rattle.rules.specs.Seen.{Seen, listed, Input, sanInput, subjectInput, constraintsInput, Reads, Sees, seenRecords}
-use Rattle.rules.specs.Matching.{Presented, presentedIn, presentedTo, cnText, matches, blocksCn, soleCn, breaks}
-use Rattle.rules.specs.Verdict.{outcomeOf, verdictOf, witnessText, witnessPlace}
-use Rattle.rules.specs.Listing.{rowsSeen, listedOf, tableAfter}
+use Rattle.rules.specs.Matching.{Presented, presentedTo, matches, blocksCn, soleCn, breaks}
+use Rattle.rules.specs.Verdict.{numbers, past, outcomeOf}
 use Rattle.rules.specs.declared.Row.{Row}
-use Rattle.rules.specs.declared.Listed.{Listed}
 use Rattle.rules.specs.declared.Shown.{Shown}
-use Rattle.rules.specs.declared.Verdict.{Verdict}
-use Rattle.rules.specs.declared.Outcome.{Outcome}
-use Rattle.reading.specs.Views.{seenSan, seenSubject, seenConstraints}
+use Rattle.reading.specs.Calls.{Inputs, outcomeOn, verdictOn, witnessTextOn, witnessPartOn, witnessPlaceOn, listingOn, tableOn}
 
 -- ==== What is spoken of
-
--- the four byte strings of a verdict: any bytes at all
-pub record Strings : Type 0 where
-  pub references : List ℕ
-  pub san : List ℕ
-  pub subject : List ℕ
-  pub constraints : List ℕ
-
--- the verdict on them, as its public contract states it
-abbrev pub verdictOn : Strings → Verdict
-verdictOn s =
-    verdictOf (seenRecords (s .references)) (seenSan (s .san)) (seenSubject (s .subject)) (seenConstraints (s .constraints))
-
--- how it ends, of which the five numbers and the witness's text are told
-abbrev pub outcomeOn : Strings → Outcome
-outcomeOn s =
-    outcomeOf (seenRecords (s .references)) (seenSan (s .san)) (seenSubject (s .subject)) (seenConstraints (s .constraints))
-
--- "A verdict is five numbers: answer, reference index, presented index, start, length."
-abbrev pub five : ℕ → ℕ → ℕ → ℕ → ℕ → Verdict
-five answer reference presented start size =
-    record { answer = answer; reference = reference; presented = presented; start = start; length = size }
 
 -- what the record reader shows: answer, kind, and the lengths of service and domain
 abbrev pub four : ℕ → ℕ → ℕ → ℕ → Shown
 four answer kind service domain = record { answer = answer; kind = kind; service = service; domain = domain }
 
--- a certificate string: its limit and grammar, what is seen of its bytes, its own refusal (3, 4 or 5), and the element of a name
--- of its list, "the GeneralName, or the attribute's SEQUENCE"
-pub record Listable (Name : Type 0) : Type 0 where
+-- ---- the three certificate strings
+
+-- what stands before the content of an element
+abbrev pub head : ℕ → List ℕ → List ℕ
+head tag content = tag ∷ lengthBytes (length content)
+
+-- what is written before the i-th name of groups that stand side by side, each an element around its names: all of an earlier
+-- group, and of the name's own group its head and the names before it
+module _ {A : Type 0} (write : A → List ℕ) (tag : Group A → ℕ) where
+  unfoldable pub frontInGroups : ℕ → List (Group A) → List ℕ
+  frontInGroups i [] = []
+  frontInGroups i (g ∷ gs) =
+      let content = run write (g .members) in
+      cond (ltb i (length (g .members)))
+      (head (tag g) content ++ run write (take i (g .members)))
+      (element (tag g) content ++ frontInGroups (i - length (g .members)) gs)
+
+-- "Kinds: tag's low five bits; 9 for an SRVName"
+abbrev pub NameKind : GeneralName → ℕ → Type 0
+NameKind (plain tag content) kind = kind ≡ tag % 32
+NameKind (other oid tag content) kind = (oid ≡ srvOid → kind ≡ 9) × (oid ≢ srvOid → kind ≡ 0xA0 % 32)
+
+-- "in a subject 10 for a CN with tag 0C, 13 or 16, 11 for another CN, 12 otherwise"
+abbrev pub AttributeKind : Attribute → ℕ → Type 0
+AttributeKind a kind =
+    (a .oid ≡ cnOid → CnTag (a .tag) → kind ≡ 10)
+    × (a .oid ≡ cnOid → ¬ CnTag (a .tag) → kind ≡ 11)
+    × (a .oid ≢ cnOid → kind ≡ 12)
+  where
+    CnTag : ℕ → Type 0
+    CnTag tag = (tag ≡ 0x0C) ⊎ (tag ≡ 0x13) ⊎ (tag ≡ 0x16)
+
+-- a certificate string: the names of its lists, its limit and grammar, and its own refusal
+pub record CertificateString : Type 1 where
+  pub Name : Type 0
   pub input : Input Name
-  pub seen : List ℕ → Seen Name
   pub refusal : ℕ
+  -- "the name's element as written (the GeneralName, or the attribute's SEQUENCE)"
   pub element : Name → List ℕ
+  -- the bytes written before the element of the name at an index of a list
+  pub front : List Name → ℕ → Name → List ℕ
+  -- the kind of a name's row
+  pub Kind : Name → ℕ → Type 0
+  -- "Group: entry index, RDN index, or 0 permitted and 1 excluded": of the name at an index
+  pub group : ℕ → Name → ℕ
 
-abbrev pub sanString : Listable GeneralName
-sanString = record { input = sanInput; seen = seenSan; refusal = sanUnreadable; element = writeName }
+abbrev pub sanString : CertificateString
+sanString = record {
+  Name = GeneralName;
+  input = sanInput;
+  refusal = sanUnreadable;
+  element = writeName;
+  front = λ list i name. head 0x30 (run writeName list) ++ run writeName (take i list);
+  Kind = NameKind;
+  group = λ i name. i;
+}
 
-abbrev pub subjectString : Listable (Member Attribute)
-subjectString = record { input = subjectInput; seen = seenSubject; refusal = subjectUnreadable; element = λ m. writeAttribute (m .value) }
+abbrev pub subjectString : CertificateString
+subjectString = record {
+  Name = Member Attribute;
+  input = subjectInput;
+  refusal = subjectUnreadable;
+  element = λ m. writeAttribute (m .value);
+  front = λ list i m. head 0x30 (run writeSet (groups list)) ++ frontInGroups writeAttribute (λ g. 0x31) i (groups list);
+  Kind = λ m. AttributeKind (m .value);
+  group = λ i m. m .group;
+}
 
-abbrev pub constraintsString : Listable (Member GeneralName)
-constraintsString =
-    record { input = constraintsInput; seen = seenConstraints; refusal = constraintsUnreadable; element = λ m. writeName (m .value) }
+-- a subtree's element is its GeneralName, and before that stands the head of the 30 element that holds it
+abbrev pub constraintsString : CertificateString
+constraintsString = record {
+  Name = Member GeneralName;
+  input = constraintsInput;
+  refusal = constraintsUnreadable;
+  element = λ m. writeName (m .value);
+  front = λ list i m.
+      head 0x30 (run writeSide (groups list))
+      ++ (frontInGroups writeSubtree (λ g. 0xA0 + g .number) i (groups list) ++ head 0x30 (writeName (m .value)));
+  Kind = λ m. NameKind (m .value);
+  group = λ i m. m .group;
+}
 
--- the listing of a string, as its public contract states it: answer and count, by the bytes and the number of rows lent
-abbrev pub listing : {Name : Type 0} → Listable Name → List ℕ → ℕ → Listed
-listing S bytes lent = listedOf (S .refusal) (rowsSeen (S .input .grammar) (S .seen bytes)) lent
-
--- and the lent table afterwards
-abbrev pub tableOn : {Name : Type 0} → Listable Name → List ℕ → List Row → List Row
-tableOn S bytes table = tableAfter (rowsSeen (S .input .grammar) (S .seen bytes)) table
+-- the string that a listing lists: 0 is the SAN, 1 the subject, any other number the constraints
+abbrev pub stringOf : ℕ → CertificateString
+stringOf zero = sanString
+stringOf (suc zero) = subjectString
+stringOf (suc (suc n)) = constraintsString
 
 -- ---- the conditions of the answers
 
 -- "an input is too long"
-abbrev pub TooLong : Strings → Type 0
+abbrev pub TooLong : Inputs → Type 0
 TooLong s =
     (recordsLimit < length (s .references))
     ⊎ (sanLimit < length (s .san))
@@ -91,7 +130,7 @@ TooLong s =
     ⊎ (constraintsLimit < length (s .constraints))
 
 -- "reference records unreadable"
-abbrev pub RecordsUnreadable : Strings → Type 0
+abbrev pub RecordsUnreadable : Inputs → Type 0
 RecordsUnreadable s = ¬ T (goodRecords (s .references))
 
 -- "A string is readable exactly when its own grammar writes some list as its bytes; an absent SAN or absent constraints
@@ -107,7 +146,7 @@ pub record Names : Type 0 where
   pub constraints : List (Member GeneralName)
 
 -- no string is too long, all are readable, and these are their names
-pub record Read (s : Strings) (l : Names) : Type 0 where
+pub record Read (s : Inputs) (l : Names) : Type 0 where
   pub references-are : seenRecords (s .references) ≡ listed (l .references)
   pub san-is : Sees sanInput (s .san) (listed (l .san))
   pub subject-is : Sees subjectInput (s .subject) (listed (l .subject))
@@ -153,7 +192,7 @@ EachExactly earlier (a ∷ later) given =
     (given ≡ a .number ↔ a .condition × None earlier) × EachExactly (a .condition ∷ earlier) later given
 
 -- "Order for a verdict: 7 for any of the four inputs, then 6, 3, 4, 5, 2, then 0 or 1."
-abbrev pub verdictAnswers : Strings → List Answer
+abbrev pub verdictAnswers : Inputs → List Answer
 verdictAnswers s =
     when 7 (TooLong s)
     ∷ when 6 (RecordsUnreadable s)
@@ -165,12 +204,12 @@ verdictAnswers s =
     ∷ when 1 Unit
     ∷ []
 
--- "7, then 3, 4 or 5 .., then 8 with the count needed, given exactly when that exceeds the rows lent", else 0
-abbrev pub listingAnswers : {Name : Type 0} → Listable Name → List ℕ → ℕ → List Answer
-listingAnswers {Name} S bytes lent =
+-- "7, then 3, 4 or 5 (each with count 0), then 8 with the count needed, given exactly when that exceeds the rows lent"; else 0
+abbrev pub listingAnswers : (S : CertificateString) → List ℕ → ℕ → List Answer
+listingAnswers S bytes lent =
     when 7 (S .input .limit < length bytes)
     ∷ when (S .refusal) (Unreadable (S .input) bytes)
-    ∷ when 8 ((list : List Name) × Reads (S .input) bytes list × (lent < length list))
+    ∷ when 8 ((list : List (S .Name)) × Reads (S .input) bytes list × (lent < length list))
     ∷ when 0 Unit
     ∷ []
 
@@ -178,50 +217,45 @@ listingAnswers {Name} S bytes lent =
 abbrev pub recordAnswers : List ℕ → List Answer
 recordAnswers bytes = when 7 (recordsLimit < length bytes) ∷ when 6 (¬ T (goodRecords bytes)) ∷ when 0 Unit ∷ []
 
--- ==== Demand 1: "Any bytes at all get an answer. Callers check nothing first." Verdict and listing are functions of any bytes.
+-- ==== Demand 1: "Any bytes at all get an answer. Callers check nothing first": every call is a function of any bytes.
 
 -- "A bad input gets exactly the refusal that document 01's order gives."
-pub record Verdicts (s : Strings) : Type 0 where
+pub record Verdicts (s : Inputs) : Type 0 where
   pub order : EachExactly [] (verdictAnswers s) (verdictOn s .answer)
   -- the other four of 7, 6, 3, 4, 5 and 1: "zeros"
-  pub zeros : verdictOn s .answer ≢ 0 → verdictOn s .answer ≢ 2 → verdictOn s ≡ five (verdictOn s .answer) 0 0 0 0
+  pub zeros : verdictOn s .answer ≢ 0 → verdictOn s .answer ≢ 2 → verdictOn s ≡ numbers (verdictOn s .answer) 0 0 0 0
   -- and of 2: "presented index of the first that does; the rest zero"
   pub first-broken :
       (l : Names) → Read s l → verdictOn s .answer ≡ 2
-      → (i : ℕ) × (verdictOn s ≡ five 2 0 i 0 0) × BreaksAt l i × ((k : ℕ) → BreaksAt l k → i ≤ k)
+      → (i : ℕ) × (verdictOn s ≡ numbers 2 0 i 0 0) × BreaksAt l i × ((k : ℕ) → BreaksAt l k → i ≤ k)
 
-pub record Listings {Name : Type 0} (S : Listable Name) : Type 0 where
-  pub order :
-      (bytes : List ℕ) (lent : ℕ)
-      → EachExactly [] (listingAnswers S bytes lent) (listing S bytes lent .answer)
+-- the listing of the string S, of which the number is `which`
+pub record Listings (which : ℕ) (S : CertificateString) : Type 0 where
+  pub order : (bytes : List ℕ) (lent : ℕ) → EachExactly [] (listingAnswers S bytes lent) (listingOn which bytes lent .answer)
   -- "(each with count 0)"
   pub no-count :
       (bytes : List ℕ) (lent : ℕ)
-      → listing S bytes lent .answer ≢ 0
-      → listing S bytes lent .answer ≢ 8
-      → listing S bytes lent .count ≡ 0
-  -- "0 and the count", "8 with the count needed"
-  pub counted :
-      (bytes : List ℕ) (list : List Name) → Sees (S .input) bytes (listed list)
-      → (lent : ℕ) → listing S bytes lent .count ≡ length list
+      → listingOn which bytes lent .answer ≢ 0
+      → listingOn which bytes lent .answer ≢ 8
+      → listingOn which bytes lent .count ≡ 0
   -- "A refused listing leaves the lent table untouched"
   pub untouched :
       (bytes : List ℕ) (table : List Row)
-      → listing S bytes (length table) .answer ≢ 0
-      → tableOn S bytes table ≡ table
-  -- "an accepted one shows the same rows whatever the table held"
+      → listingOn which bytes (length table) .answer ≢ 0
+      → tableOn which bytes table ≡ table
+  -- "an accepted one shows the same rows whatever the table held": also in tables of two sizes, which the sentence leaves open
   pub same-rows :
       (bytes : List ℕ) (table table′ : List Row)
-      → listing S bytes (length table) .answer ≡ 0
-      → listing S bytes (length table′) .answer ≡ 0
-      → take (listing S bytes (length table) .count) (tableOn S bytes table)
-      ≡ take (listing S bytes (length table′) .count) (tableOn S bytes table′)
-  -- "Rows past the count .. stay", and the table has as many rows as before
+      → listingOn which bytes (length table) .answer ≡ 0
+      → listingOn which bytes (length table′) .answer ≡ 0
+      → take (listingOn which bytes (length table) .count) (tableOn which bytes table)
+      ≡ take (listingOn which bytes (length table′) .count) (tableOn which bytes table′)
+  -- "Rows past the count, and all rows after a refusal, stay." Stronger than the sentence: the table has as many rows as before
   pub rows-stay :
       (bytes : List ℕ) (table : List Row)
-      → drop (listing S bytes (length table) .count) (tableOn S bytes table)
-      ≡ drop (listing S bytes (length table) .count) table
-  pub size-stays : (bytes : List ℕ) (table : List Row) → length (tableOn S bytes table) ≡ length table
+      → drop (listingOn which bytes (length table) .count) (tableOn which bytes table)
+      ≡ drop (listingOn which bytes (length table) .count) table
+  pub size-stays : (bytes : List ℕ) (table : List Row) → length (tableOn which bytes table) ≡ length table
 
 -- the record reader: "beside it that record's kind and two lengths, zeros on a refusal or past the last"; the record is that of
 -- the reference at i
@@ -234,17 +268,30 @@ pub record Records (bytes : List ℕ) (i : ℕ) : Type 0 where
       → shown bytes i ≡ four 0 (r .kind) (length (r .service)) (length (r .domain))
 
 pub record Demand1 : Type 0 where
-  pub verdict : (s : Strings) → Verdicts s
+  pub verdict : (s : Inputs) → Verdicts s
   pub records : (bytes : List ℕ) (i : ℕ) → Records bytes i
-  pub san : Listings sanString
-  pub subject : Listings subjectString
-  pub constraints : Listings constraintsString
+  pub listing : (which : ℕ) → Listings which (stringOf which)
 
--- ==== Demand 2: "The verdict is RFC 6125 section 6 with RFC 4985 section 4, as document 01 narrows them"
+-- ==== Demand 2: "The verdict is RFC 6125 section 6 with RFC 4985 section 4", "as document 01 narrows them"
 
--- the lowest reference, then the lowest name: every pair that matches has a higher reference, or the same and no lower name
+-- "lowest reference, then lowest name": every pair that matches has a higher reference, or the same and no lower name
 abbrev pub First : Names → ℕ → ℕ → Type 0
 First l i j = (i′ j′ : ℕ) → PairAt l i′ j′ → (i < i′) ⊎ ((i ≡ i′) × (j ≤ j′))
+
+-- what is reported of the reference r, which is the i-th, and the identifier p that it matches
+pub record Reported (s : Inputs) (i : ℕ) (r : Reference) (p : Presented) : Type 0 where
+  -- "the witnessing pair, and its element's place"
+  pub numbers-are : verdictOn s ≡ numbers 0 i (p .row .group) (p .row .start) (p .row .length)
+  -- "The witness's text (the content of the dNSName or URI, the IA5String of the SRVName, the CN's value)": the text that matched
+  pub text-is : p .text ≡ some (witnessTextOn s)
+  -- "is handed back as a part of the certificate's own bytes": of the subject for a CN, else of the SAN
+  pub part-is : part (cond (eqb (r .kind) cnKind) (s .subject) (s .san)) (witnessPartOn s .start) (witnessPartOn s .length) ≡ witnessTextOn s
+  pub place-is :
+      (san subject : ℕ × ℕ)
+      → witnessPlaceOn s san subject ≡ past (cond (eqb (r .kind) cnKind) subject san) (witnessPartOn s .start)
+  -- stronger than the sentence: which part, where the same text stands twice. It is the text's own, and ends where the element ends
+  pub length-is : witnessPartOn s .length ≡ length (witnessTextOn s)
+  pub ends : witnessPartOn s .start + witnessPartOn s .length ≡ p .row .start + p .row .length
 
 -- "A reference matches only its own kind."
 pub record Kinds (l : Names) (r : Reference) (j : ℕ) : Type 0 where
@@ -263,8 +310,8 @@ pub record Kinds (l : Names) (r : Reference) (j : ℕ) : Type 0 where
       r .kind ≡ uriKind
       → MatchesAt l r j
       ↔ (text : List ℕ) × (getElem? (l .san) j ≡ some (plain 0x86 text)) × T (uriMatches (r .service) (r .domain) text)
-  -- a CN reference: "The CN counts only if no DNS, SRV or URI name is presented"; then a CN-ID, "the value of an attribute of
-  -- type CN, tag 0C, 13 or 16, in a set that has exactly one CN attribute, whatever the tags"
+  -- a CN reference: "The CN counts only if no DNS, SRV or URI name is presented"; then "the value of an attribute of type CN, tag
+  -- 0C, 13 or 16, in a set that has exactly one CN attribute, whatever the tags"
   pub cn :
       r .kind ≡ cnKind
       → MatchesAt l r j
@@ -275,35 +322,19 @@ pub record Kinds (l : Names) (r : Reference) (j : ℕ) : Type 0 where
 pub record Demand2 : Type 0 where
   -- "a match exactly when some presented name matches some reference"
   pub match :
-      (s : Strings) (l : Names) → Read s l → ((k : ℕ) → ¬ BreaksAt l k)
+      (s : Inputs) (l : Names) → Read s l → ((k : ℕ) → ¬ BreaksAt l k)
       → verdictOn s .answer ≡ 0 ↔ (i : ℕ) × (j : ℕ) × PairAt l i j
-  -- otherwise a mismatch
-  pub mismatch :
-      (s : Strings) (l : Names) → Read s l → ((k : ℕ) → ¬ BreaksAt l k)
-      → verdictOn s .answer ≡ 1 ↔ ((i j : ℕ) → ¬ PairAt l i j)
-  -- "the pair reported is the first": "the witnessing pair, and its element's place"; and "the witness's text (the content of
-  -- the dNSName or URI, the IA5String of the SRVName, the CN's value)" is that pair's
+  -- "the pair reported is the first (lowest reference, then lowest name)"
   pub first :
-      (s : Strings) (l : Names) → Read s l → verdictOn s .answer ≡ 0
-      → (i : ℕ) × (j : ℕ) × (pair : PairAt l i j) × First l i j
-      × (verdictOn s ≡ (let row = pair .match .presented .row in five 0 i (row .group) (row .start) (row .length)))
-      × (pair .match .presented .text ≡ some (witnessText (s .san) (s .subject) (outcomeOn s)))
+      (s : Inputs) (l : Names) → Read s l → verdictOn s .answer ≡ 0
+      → (i : ℕ) × (j : ℕ) × (pair : PairAt l i j) × First l i j × Reported s i (pair .reference) (pair .match .presented)
   -- "On any answer but 0 that part is empty, at the start of the SAN."
   pub no-witness :
-      (s : Strings) → verdictOn s .answer ≢ 0
-      → (witnessText (s .san) (s .subject) (outcomeOn s) ≡ [])
-      × ((san subject : ℕ × ℕ) → witnessPlace san subject (outcomeOn s) ≡ san)
+      (s : Inputs) → verdictOn s .answer ≢ 0
+      → (witnessTextOn s ≡ []) × (witnessPartOn s ≡ record { start = 0; length = 0 })
+      × ((san subject : ℕ × ℕ) → witnessPlaceOn s san subject ≡ san)
   -- what it means that a reference matches
   pub kinds : (l : Names) (r : Reference) (j : ℕ) → Kinds l r j
-  -- "The CN counts only if no DNS, SRV or URI name is presented": beside one a CN reference is held against nothing, and
-  -- otherwise against the subject's attributes
-  pub cn-blocked :
-      (l : Names) (i : ℕ) (entry : GeneralName) → getElem? (l .san) i ≡ some entry → T (blocksCn entry)
-      → presentedTo cnKind (l .san) (l .subject) ≡ []
-  pub cn-counts :
-      (l : Names) → ((i : ℕ) (entry : GeneralName) → getElem? (l .san) i ≡ some entry → ¬ T (blocksCn entry))
-      → presentedTo cnKind (l .san) (l .subject)
-      ≡ presentedIn (cnText (l .subject)) (subjectInput .grammar .rows (l .subject)) (l .subject)
   -- "A presented index counts all SAN entries from 0": it is the entry's, and the place is that of the SAN's row
   pub entry-index :
       (l : Names) (r : Reference) (j : ℕ) (m : MatchesAt l r j) → r .kind ≢ cnKind
@@ -314,57 +345,63 @@ pub record Demand2 : Type 0 where
       → (a : Member Attribute) × (getElem? (l .subject) j ≡ some a) × (m .presented .row .group ≡ a .group)
       × (getElem? (subjectInput .grammar .rows (l .subject)) j ≡ some (m .presented .row))
   -- "An SRVName that breaks the issuer's SRVName restrictions refuses the certificate even if another name would match."
-  pub broken : (s : Strings) (l : Names) → Read s l → (k : ℕ) → BreaksAt l k → verdictOn s .answer ≡ 2
+  pub broken : (s : Inputs) (l : Names) → Read s l → (k : ℕ) → BreaksAt l k → verdictOn s .answer ≡ 2
 
 -- ==== Demand 3: "One reading." "The DER grammar is written down as how names are put into bytes, with no reader in it": that a
 -- grammar G writes a list as these bytes is `Writes G list bytes`.
 
-pub record OneReading {Name : Type 0} (S : Listable Name) : Type 0 where
-  -- "The listing reads bytes exactly when the grammar writes some list as those bytes"; it "reads a string when it answers 0
-  -- or 8"
+-- the row of the name at i of a list that is written as these bytes
+pub record RowOf (S : CertificateString) (bytes : List ℕ) (list : List (S .Name)) (i : ℕ) (name : S .Name) (row : Row) : Type 0 where
+  -- "the length is that of the name's element as written"
+  pub length-is : row .length ≡ length (S .element name)
+  -- "the start is the number of bytes written before that element"
+  pub start-is : row .start ≡ length (S .front list i name)
+  -- and these are the bytes before it, the element, and the bytes behind it
+  pub behind : List ℕ
+  pub bytes-are : bytes ≡ S .front list i name ++ (S .element name ++ behind)
+  -- "kind and group are as under Listing"
+  pub kind-is : S .Kind name (row .kind)
+  pub group-is : row .group ≡ S .group i name
+
+pub record OneReading (which : ℕ) (S : CertificateString) : Type 0 where
+  -- "The listing reads bytes exactly when the grammar writes some list as those bytes"; "The listing reads a string when it answers
+  -- 0 or 8."
   pub exactly :
       (bytes : List ℕ) → bytes ≢ [] → length bytes ≤ S .input .limit → (lent : ℕ)
-      → (listing S bytes lent .answer ≡ 0) ⊎ (listing S bytes lent .answer ≡ 8)
-      ↔ (list : List Name) × Writes (S .input .grammar) list bytes
+      → (listingOn which bytes lent .answer ≡ 0) ⊎ (listingOn which bytes lent .answer ≡ 8)
+      ↔ (list : List (S .Name)) × Writes (S .input .grammar) list bytes
   -- "that list is the only one"
   pub only :
-      (bytes : List ℕ) (list list′ : List Name)
+      (bytes : List ℕ) (list list′ : List (S .Name))
       → Writes (S .input .grammar) list bytes → Writes (S .input .grammar) list′ bytes → list ≡ list′
   -- "and has no second writing"
   pub once :
-      (list : List Name) (bytes bytes′ : List ℕ)
+      (list : List (S .Name)) (bytes bytes′ : List ℕ)
       → Writes (S .input .grammar) list bytes → Writes (S .input .grammar) list bytes′ → bytes ≡ bytes′
-  -- "count and rows are that list's": "A list's count is the number of its names. It has one row for each"
+  -- "count and rows are that list's": "A list's count is the number of its names. It has one row for each". Of an absent string too:
+  -- "An absent string lists 0 rows."
   pub count :
-      (bytes : List ℕ) (list : List Name) → length bytes ≤ S .input .limit → Writes (S .input .grammar) list bytes
-      → (lent : ℕ) → listing S bytes lent .count ≡ length list
+      (bytes : List ℕ) (list : List (S .Name)) → Sees (S .input) bytes (listed list)
+      → (lent : ℕ) → listingOn which bytes lent .count ≡ length list
   pub rows :
-      (bytes : List ℕ) (list : List Name) → length bytes ≤ S .input .limit → Writes (S .input .grammar) list bytes
+      (bytes : List ℕ) (list : List (S .Name)) → Sees (S .input) bytes (listed list)
       → (table : List Row) → length list ≤ length table
-      → take (length list) (tableOn S bytes table) ≡ S .input .grammar .rows list
-  pub one-each : (list : List Name) → length (S .input .grammar .rows list) ≡ length list
-  -- "the length is that of the name's element as written .., the start is the number of bytes written before that element"
-  pub places :
-      (bytes : List ℕ) (list : List Name) → Writes (S .input .grammar) list bytes
-      → (i : ℕ) (name : Name) (row : Row) → getElem? list i ≡ some name → getElem? (S .input .grammar .rows list) i ≡ some row
-      → (row .length ≡ length (S .element name)) × (part bytes (row .start) (row .length) ≡ S .element name)
+      → take (length list) (tableOn which bytes table) ≡ S .input .grammar .rows list
+  pub one-each : (list : List (S .Name)) → length (S .input .grammar .rows list) ≡ length list
+  pub row-of :
+      (bytes : List ℕ) (list : List (S .Name)) → Writes (S .input .grammar) list bytes
+      → (i : ℕ) (name : S .Name) (row : Row) → getElem? list i ≡ some name → getElem? (S .input .grammar .rows list) i ≡ some row
+      → RowOf S bytes list i name row
   -- of every string exactly one thing is seen: that it is too long, that it is unreadable, or its list
-  pub one-seen : (bytes : List ℕ) → (x : Seen Name) × Sees (S .input) bytes x × ((y : Seen Name) → Sees (S .input) bytes y → y ≡ x)
+  pub one-seen :
+      (bytes : List ℕ)
+      → (x : Seen (S .Name)) × Sees (S .input) bytes x × ((y : Seen (S .Name)) → Sees (S .input) bytes y → y ≡ x)
 
 pub record Demand3 : Type 0 where
-  pub san : OneReading sanString
-  pub subject : OneReading subjectString
-  pub constraints : OneReading constraintsString
+  pub reading : (which : ℕ) → OneReading which (stringOf which)
   -- "Every verdict depends on our records and, of each certificate string, only on whether it is too long and its list, if any."
+  -- Stronger than the sentence: it says what the outcome is, of which numbers, text and place are told
   pub verdict :
-      (s : Strings) (san : Seen GeneralName) (subject : Seen (Member Attribute)) (constraints : Seen (Member GeneralName))
+      (s : Inputs) (san : Seen GeneralName) (subject : Seen (Member Attribute)) (constraints : Seen (Member GeneralName))
       → Sees sanInput (s .san) san → Sees subjectInput (s .subject) subject → Sees constraintsInput (s .constraints) constraints
-      → verdictOn s ≡ verdictOf (seenRecords (s .references)) san subject constraints
-  -- so two certificates of which the same is seen get the same verdict, refused or not
-  pub same-verdict :
-      (s t : Strings) (san : Seen GeneralName) (subject : Seen (Member Attribute)) (constraints : Seen (Member GeneralName))
-      → s .references ≡ t .references
-      → Sees sanInput (s .san) san → Sees sanInput (t .san) san
-      → Sees subjectInput (s .subject) subject → Sees subjectInput (t .subject) subject
-      → Sees constraintsInput (s .constraints) constraints → Sees constraintsInput (t .constraints) constraints
-      → verdictOn s ≡ verdictOn t
+      → outcomeOn s ≡ outcomeOf (seenRecords (s .references)) san subject constraints

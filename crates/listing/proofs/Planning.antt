@@ -14,6 +14,7 @@ use Rattle.rules.specs.declared.Row.{Row}
 use Rattle.reading.specs.Strings.{readSan, readSubject, readConstraints}
 use Rattle.reading.specs.OneReading.{OneReading, san-reading, subject-reading, constraints-reading}
 use Rattle.reading.specs.Views.{absent, listedOr, seenOf, seenSan, seenSubject, seenConstraints}
+use Rattle.reading.specs.Calls.{refusalOf, seenRows}
 use Rattle.strings.specs.Counts.{placeCount}
 use Rattle.strings.specs.declared.Count.{Count}
 use Rattle.strings.specs.declared.Count.the-variants.{Of, Unreadable}
@@ -21,7 +22,6 @@ use Rattle.steps.specs.Steps.{cursor, sanStart, sanStep, subjectStart, subjectS
 use Rattle.steps.specs.declared.Cursor.{Cursor}
 use Rattle.steps.specs.declared.Step.{Step}
 use Rattle.listing.specs.declared.Plan.{Plan}
-use Rattle.listing.specs.Listing.{refusalOf, seenRows}
 use Rattle.listing.specs.Steps.{firstOf, stepOf}
 use Rattle.listing.specs.Plans.{limitOf, namesOf, countOf, plan, refused, planFor, planOf}
 

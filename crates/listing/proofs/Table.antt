@@ -17,9 +17,9 @@ use Rattle.rules.specs.declared.Row.{Row}
 use Rattle.reading.specs.Strings.{readSan, readSubject, readConstraints}
 use Rattle.reading.specs.OneReading.{OneReading, san-reading, subject-reading, constraints-reading}
 use Rattle.reading.specs.Views.{absent, listedOr, seenOf, seenSan, seenSubject, seenConstraints}
+use Rattle.reading.specs.Calls.{refusalOf, seenRows, listingOn, tableOn}
 use Rattle.steps.specs.Walks.{rowsBy, walk-rows, san-walk}
 use Rattle.steps.specs.GroupWalks.{subject-walk, constraints-walk}
-use Rattle.listing.specs.Listing.{refusalOf, seenRows}
 use Rattle.listing.specs.Steps.{stepOf, firstOf}
 use Rattle.listing.specs.Plans.{refused, planFor, planOf}
 use Rattle.listing.proofs.Fill.{filled}
@@ -77,8 +77,8 @@ rows-fit which s lent = go (seenRows which s)
     go (listed rows) = tell (ltb lent (length rows)) rows refl
 
 -- "The answer is 0 and the count; or 7, .."
-pub listed-is : (which : ℕ) (s : List ℕ) (lent : ℕ) → planOf which s lent .listed ≡ listedOf (refusalOf which) (seenRows which s) lent
-unfolding planOf planFor refused listedOf
+pub listed-is : (which : ℕ) (s : List ℕ) (lent : ℕ) → planOf which s lent .listed ≡ listingOn which s lent
+unfolding listingOn planOf planFor refused listedOf
 listed-is which s lent = go (seenRows which s)
   where
     tell : (t : Bool) (rows : List Row) → ltb lent (length rows) ≡ t → planFor (refusalOf which) (listed rows) lent (firstOf which s) .listed ≡ listedOf (refusalOf which) (listed rows) lent
@@ -93,8 +93,8 @@ listed-is which s lent = go (seenRows which s)
 -- "Rows past the count, and all rows after a refusal, stay."
 pub table-is : (which : ℕ) (s : List ℕ) (table : List Row)
     → filled (stepOf which s) (planOf which s (length table) .rows) (planOf which s (length table) .first) table
-    ≡ tableAfter (seenRows which s) table
-unfolding planOf planFor refused tableAfter rowsBy
+    ≡ tableOn which s table
+unfolding tableOn planOf planFor refused tableAfter rowsBy
 table-is which s table = go (seenRows which s) refl
   where
     tell : (t : Bool) (rows : List Row) → ltb (length table) (length rows) ≡ t → seenRows which s ≡ listed rows

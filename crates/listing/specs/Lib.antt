@@ -1,4 +1,3 @@
--- The listing: the contract's own words first (Listing), then how it goes row by row.
-pub mod Listing
+-- How a listing goes row by row, and what it answers and writes before it writes.
 pub mod Steps
 pub mod Plans

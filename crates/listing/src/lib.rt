@@ -14,8 +14,7 @@ use strings::san_count;
 use strings::subject_count;
 ghost use mathlib.Core.Path.{_≡_};
 ghost use lib.ListN.{length};
-ghost use Rattle.rules.specs.Listing.{listedOf, tableAfter};
-ghost use Rattle.listing.specs.Listing.{refusalOf, seenRows};
+ghost use Rattle.reading.specs.Calls.{refusalOf, listingOn, tableOn};
 ghost use Rattle.listing.specs.Plans.{limitOf, countOf, refused, planOf};
 ghost use Rattle.listing.specs.Steps.{stepOf, firstOf};
 
@@ -147,8 +146,8 @@ pub fn planned(bytes: &[u8], lent: usize, which: usize) -> Plan
 // "Rows (kind, start, length, group) go into a table lent as a slice of such records, one for each SAN entry, attribute or
 // subtree in byte order." "Rows past the count, and all rows after a refusal, stay."
 pub fn list(table: &mut [rules::Row], bytes: &[u8], which: usize) -> rules::Listed
-    ensures { λ r. ⌜ (r ≡ listedOf (refusalOf which) (seenRows which (now (bytes .entry))) (length (now (table .entry))))
-        × (now (table .exit) ≡ tableAfter (seenRows which (now (bytes .entry))) (now (table .entry))) ⌝ }
+    ensures { λ r. ⌜ (r ≡ listingOn which (now (bytes .entry)) (length (now (table .entry))))
+        × (now (table .exit) ≡ tableOn which (now (bytes .entry)) (now (table .entry))) ⌝ }
 {
     let p = planned(bytes, table.len(), which);
     let n = p.rows;

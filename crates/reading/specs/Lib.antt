@@ -10,3 +10,4 @@ pub mod Groups
 pub mod Codecs
 pub mod OneReading
 pub mod Views
+pub mod Calls

@@ -17,6 +17,7 @@ use Rattle.rules.specs.declared.Row.{Row}
 use Rattle.rules.specs.declared.Place.{Place}
 use Rattle.rules.specs.declared.Witness.{Witness}
 use Rattle.rules.specs.declared.Verdict.{Verdict}
+use Rattle.rules.specs.declared.Breach.{Breach}
 use Rattle.rules.specs.declared.Outcome.{Outcome}
 use Rattle.rules.specs.declared.Outcome.the-variants.{Refused, Broken, Matched, Mismatched}
 
@@ -63,7 +64,7 @@ matchedOr (some w) = Matched (witnessOf w)
 
 abbrev pub brokenOr : Option ℕ → Outcome → Outcome
 brokenOr none o = o
-brokenOr (some i) o = Broken i
+brokenOr (some i) o = Broken (record { presented = i })
 
 -- all four inputs are read: the constraints first, "even if another name would match", then the first pair
 unfoldable pub judged : List Reference → List GeneralName → List (Member Attribute) → List (Member GeneralName) → Outcome
@@ -82,23 +83,18 @@ outcomeOf references san subject constraints =
 
 -- ---- the five numbers
 
-abbrev pub answered : ℕ → ℕ → Verdict
-answered answer presented = record { answer = answer; reference = 0; presented = presented; start = 0; length = 0 }
+-- "A verdict is five numbers: answer, reference index, presented index, start, length."
+abbrev pub numbers : ℕ → ℕ → ℕ → ℕ → ℕ → Verdict
+numbers answer reference presented start size =
+    record { answer = answer; reference = reference; presented = presented; start = start; length = size }
 
 -- the table of answers: "zeros", "presented index of the first that does; the rest zero", "the witnessing pair, and its
 -- element's place"
 unfoldable pub numbersOf : Outcome → Verdict
-numbersOf (Refused answer) = answered answer 0
-numbersOf (Broken i) = answered constraintsBroken i
-numbersOf (Matched w) =
-    record {
-      answer = match;
-      reference = w .reference;
-      presented = w .presented;
-      start = w .element .start;
-      length = w .element .length;
-    }
-numbersOf Mismatched = answered mismatch 0
+numbersOf (Refused answer) = numbers answer 0 0 0 0
+numbersOf (Broken b) = numbers constraintsBroken 0 (b .presented) 0 0
+numbersOf (Matched w) = numbers match (w .reference) (w .presented) (w .element .start) (w .element .length)
+numbersOf Mismatched = numbers mismatch 0 0 0 0
 
 unfoldable pub verdictOf : Seen Reference → Seen GeneralName → Seen (Member Attribute) → Seen (Member GeneralName) → Verdict
 verdictOf references san subject constraints = numbersOf (outcomeOf references san subject constraints)
@@ -108,14 +104,14 @@ verdictOf references san subject constraints = numbersOf (outcomeOf references s
 -- where the text lies in its string; zeros on any answer but 0
 unfoldable pub witnessPart : Outcome → Place
 witnessPart (Refused answer) = record { start = 0; length = 0 }
-witnessPart (Broken i) = record { start = 0; length = 0 }
+witnessPart (Broken b) = record { start = 0; length = 0 }
 witnessPart (Matched w) = w .text
 witnessPart Mismatched = record { start = 0; length = 0 }
 
 -- "On any answer but 0 that part is empty"
 unfoldable pub witnessText : List ℕ → List ℕ → Outcome → List ℕ
 witnessText san subject (Refused answer) = []
-witnessText san subject (Broken i) = []
+witnessText san subject (Broken b) = []
 witnessText san subject (Matched w) = part (cond (w .subject) subject san) (w .text .start) (w .text .length)
 witnessText san subject Mismatched = []
 
@@ -126,6 +122,6 @@ past p n = (p .0, n + p .1)
 -- ".. at the start of the SAN": where the part lies, by where the SAN and the subject lie
 unfoldable pub witnessPlace : ℕ × ℕ → ℕ × ℕ → Outcome → ℕ × ℕ
 witnessPlace san subject (Refused answer) = san
-witnessPlace san subject (Broken i) = san
+witnessPlace san subject (Broken b) = san
 witnessPlace san subject (Matched w) = past (cond (w .subject) subject san) (w .text .start)
 witnessPlace san subject Mismatched = san

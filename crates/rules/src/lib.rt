@@ -92,12 +92,17 @@ pub struct Witness {
     pub subject: bool,
 }
 
+// A presented identifier that breaks the constraints: its index.
+pub struct Breach {
+    pub presented: usize,
+}
+
 // How a verdict ends. The numbers of each case are `numbersOf` of specs/Verdict.antt.
 pub enum Outcome {
     // Answers 7, 6, 3, 4 and 5: an input is too long or unreadable.
     Refused(usize),
-    // Answer 2: the index of the first SRVName that breaks the constraints.
-    Broken(usize),
+    // Answer 2: the first SRVName that breaks the constraints.
+    Broken(Breach),
     // Answer 0.
     Matched(Witness),
     // Answer 1.

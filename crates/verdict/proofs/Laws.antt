@@ -12,16 +12,16 @@ use borrow.Author.Tests.{lt-ltb, le-ltb, not-true, not-false}
 use Rattle.rules.specs.Bytes.{part, some?}
 use Rattle.rules.specs.Numbers.{sanLimit, subjectLimit, constraintsLimit, recordsLimit}
 use Rattle.rules.specs.Records.{goodRecords, referencesOf}
-use Rattle.rules.specs.Seen.{seenRecords}
 use Rattle.rules.specs.Matching.{Pair, firstPair, firstBroken}
-use Rattle.rules.specs.Verdict.{past, witnessPart, witnessText, witnessPlace, witnessOf, matchedOr, brokenOr, judged, outcomeOf, answered, numbersOf, verdictOf}
+use Rattle.rules.specs.Verdict.{past, witnessPart, witnessText, witnessPlace, witnessOf, matchedOr, brokenOr, judged, numbers, numbersOf}
 use Rattle.rules.specs.declared.Verdict.{Verdict}
 use Rattle.rules.specs.declared.Place.{Place}
 use Rattle.rules.specs.declared.Witness.{Witness}
+use Rattle.rules.specs.declared.Breach.{Breach}
 use Rattle.rules.specs.declared.Outcome.{Outcome}
 use Rattle.rules.specs.declared.Outcome.the-variants.{Refused, Broken, Matched, Mismatched}
 use Rattle.reading.specs.Strings.{readSan, readSubject, readConstraints}
-use Rattle.reading.specs.Views.{seenSan, seenSubject, seenConstraints}
+use Rattle.reading.specs.Calls.{inputs, outcomeOn, verdictOn, witnessTextOn, witnessPartOn, witnessPlaceOn}
 use Rattle.entries.specs.Entries.{isSome}
 use Rattle.strings.specs.Counts.{placeCount}
 use Rattle.strings.specs.declared.Count.{Count}
@@ -197,7 +197,7 @@ module _ (R S J C : List ℕ) (n : ℕ) (n-is : n ≡ refusalOf R S J C) where
     asks-subject = read .subject
 
     module _ (b : broken.Broken) (b-is : b ≡ brokenAt (firstBroken 0 (namesOf readConstraints C) (namesOf readSan S))) where
-      judged-broken : (o : Option ℕ) (x : Outcome) (i : ℕ) → brokenAt o ≡ At i → brokenOr o x ≡ Broken i
+      judged-broken : (o : Option ℕ) (x : Outcome) (i : ℕ) → brokenAt o ≡ At i → brokenOr o x ≡ Broken (record { presented = i })
       unfolding brokenAt
       judged-broken none x i e = let z : _≡_ {A = ℕ} 0 1 = cc in absurd (omega arith)
       judged-broken (some k) x i e = cc
@@ -208,11 +208,11 @@ module _ (R S J C : List ℕ) (n : ℕ) (n-is : n ≡ refusalOf R S J C) where
       judged-whole (some k) x e = let z : _≡_ {A = ℕ} 0 1 = cc in absurd (omega arith)
 
       module _ (i : ℕ) (e : b ≡ At i) where
-        pub out-broken : Broken i ≡ whole R S J C
+        pub out-broken : Broken (record { presented = i }) ≡ whole R S J C
         unfolding judged
         out-broken = sym (judged-is R S J C n n-is zero-is ∙ judged-broken _ _ i (sym b-is ∙ e))
 
-        pub broken-small : ((k : ℕ) → b ≡ At k → k ≤ length S) → Small S J (Broken i)
+        pub broken-small : ((k : ℕ) → b ≡ At k → k ≤ length S) → Small S J (Broken (record { presented = i }))
         unfolding Small
         broken-small small = omega (arith, small i e, sizes-fit R S J C (read .short))
 
@@ -229,20 +229,19 @@ module _ (R S J C : List ℕ) (n : ℕ) (n-is : n ≡ refusalOf R S J C) where
 -- ---- numbers
 
 module _ (o : Outcome) where
-  pub num-refused : (v : Verdict) (n : ℕ) → o ≡ Refused n → v ≡ answered n 0 → v ≡ numbersOf o
+  pub num-refused : (v : Verdict) (n : ℕ) → o ≡ Refused n → v ≡ numbers n 0 0 0 0 → v ≡ numbersOf o
   unfolding numbersOf
   num-refused v n e f = f ∙ rw e
 
-  pub num-broken : (v : Verdict) (i : ℕ) → o ≡ Broken i → v ≡ answered 2 i → v ≡ numbersOf o
+  pub num-broken : (v : Verdict) (b : Breach) → o ≡ Broken b → v ≡ numbers 2 0 (b .presented) 0 0 → v ≡ numbersOf o
   unfolding numbersOf
-  num-broken v i e f = f ∙ rw e
+  num-broken v b e f = f ∙ rw e
 
-  pub num-matched : (w : Witness) → o ≡ Matched w
-      → record { answer = 0; reference = w .reference; presented = w .presented; start = w .element .start; length = w .element .length } ≡ numbersOf o
+  pub num-matched : (v : Verdict) (w : Witness) → o ≡ Matched w → v ≡ numbers 0 (w .reference) (w .presented) (w .element .start) (w .element .length) → v ≡ numbersOf o
   unfolding numbersOf
-  num-matched w e = rw e
+  num-matched v w e f = f ∙ rw e
 
-  pub num-mismatched : (v : Verdict) → o ≡ Mismatched → v ≡ answered 1 0 → v ≡ numbersOf o
+  pub num-mismatched : (v : Verdict) → o ≡ Mismatched → v ≡ numbers 1 0 0 0 0 → v ≡ numbersOf o
   unfolding numbersOf
   num-mismatched v e f = f ∙ rw e
 
@@ -255,7 +254,7 @@ numbers-small-of S J (Refused n) q = record {
   start-small = omega arith;
   length-small = omega arith;
 }
-numbers-small-of S J (Broken i) q = record {
+numbers-small-of S J (Broken b) q = record {
   answer-small = omega arith;
   reference-small = omega arith;
   presented-small = q;
@@ -278,8 +277,8 @@ numbers-small-of S J Mismatched q = record {
 }
 
 module _ (R S J C : List ℕ) (o : Outcome) (v : Verdict) (v-is : v ≡ numbersOf o) where
-  pub verdict-is : o ≡ whole R S J C → v ≡ verdictOf (seenRecords R) (seenSan S) (seenSubject J) (seenConstraints C)
-  unfolding verdictOf
+  pub verdict-is : o ≡ whole R S J C → v ≡ verdictOn (inputs S J C R)
+  unfolding verdictOn
   verdict-is e = v-is ∙ ap numbersOf e
 
   pub verdict-small : Small S J o → SmallNumbers v
@@ -296,9 +295,9 @@ module _ (o : Outcome) where
   unfolding witnessPart
   text-refused n e = rw e
 
-  pub text-broken : (i : ℕ) → o ≡ Broken i → record { start = 0; length = 0 } ≡ witnessPart o
+  pub text-broken : (b : Breach) → o ≡ Broken b → record { start = 0; length = 0 } ≡ witnessPart o
   unfolding witnessPart
-  text-broken i e = rw e
+  text-broken b e = rw e
 
   pub text-mismatched : o ≡ Mismatched → record { start = 0; length = 0 } ≡ witnessPart o
   unfolding witnessPart
@@ -307,12 +306,13 @@ module _ (o : Outcome) where
 part-small-of : (S J : List ℕ) (p : Outcome) → Small S J p → SmallPlace (witnessPart p)
 unfolding Small witnessPart
 part-small-of S J (Refused n) q = record { start-small = omega arith; length-small = omega arith }
-part-small-of S J (Broken i) q = record { start-small = omega arith; length-small = omega arith }
+part-small-of S J (Broken b) q = record { start-small = omega arith; length-small = omega arith }
 part-small-of S J (Matched w) q = record { start-small = omega (arith, q .text-small); length-small = omega (arith, q .text-small) }
 part-small-of S J Mismatched q = record { start-small = omega arith; length-small = omega arith }
 
 module _ (R S J C : List ℕ) (o : Outcome) (p : Place) (p-is : p ≡ witnessPart o) where
-  pub place-is : o ≡ whole R S J C → p ≡ witnessPart (whole R S J C)
+  pub place-is : o ≡ whole R S J C → p ≡ witnessPartOn (inputs S J C R)
+  unfolding witnessPartOn
   place-is e = p-is ∙ ap witnessPart e
 
   pub place-small : Small S J o → SmallPlace p
@@ -353,9 +353,9 @@ module _ (o : Outcome) (S J : List ℕ) where
   unfolding witnessText
   shown-refused n e = rw e
 
-  pub shown-broken : (i : ℕ) → o ≡ Broken i → [] ≡ witnessText S J o
+  pub shown-broken : (b : Breach) → o ≡ Broken b → [] ≡ witnessText S J o
   unfolding witnessText
-  shown-broken i e = rw e
+  shown-broken b e = rw e
 
   pub shown-mismatched : o ≡ Mismatched → [] ≡ witnessText S J o
   unfolding witnessText
@@ -369,9 +369,9 @@ module _ (o : Outcome) (p q : ℕ × ℕ) where
   unfolding witnessPlace
   at-refused n e = rw e
 
-  pub at-broken : (i : ℕ) → o ≡ Broken i → p ≡ witnessPlace p q o
+  pub at-broken : (b : Breach) → o ≡ Broken b → p ≡ witnessPlace p q o
   unfolding witnessPlace
-  at-broken i e = rw e
+  at-broken b e = rw e
 
   pub at-mismatched : o ≡ Mismatched → p ≡ witnessPlace p q o
   unfolding witnessPlace
@@ -381,10 +381,12 @@ module _ (o : Outcome) (p q : ℕ × ℕ) where
   at-matched w e t f = f ∙ rw e
 
 module _ (R S J C : List ℕ) (o : Outcome) (o-is : o ≡ whole R S J C) where
-  pub witness-bytes : (t : List ℕ) → t ≡ witnessText S J o → t ≡ witnessText S J (whole R S J C)
+  pub witness-bytes : (t : List ℕ) → t ≡ witnessText S J o → t ≡ witnessTextOn (inputs S J C R)
+  unfolding witnessTextOn
   witness-bytes t e = e ∙ ap (witnessText S J) o-is
 
-  pub witness-place : (p q t : ℕ × ℕ) → t ≡ witnessPlace p q o → t ≡ witnessPlace p q (whole R S J C)
+  pub witness-place : (p q t : ℕ × ℕ) → t ≡ witnessPlace p q o → t ≡ witnessPlaceOn (inputs S J C R) p q
+  unfolding witnessPlaceOn
   witness-place p q t e = e ∙ ap (witnessPlace p q) o-is
 
 pub ruleset texts = (

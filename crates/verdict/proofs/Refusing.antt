@@ -18,6 +18,7 @@ use Rattle.rules.specs.declared.Outcome.the-variants.{Refused, Broken, Matched,
 use Rattle.reading.specs.Reader.{readElement}
 use Rattle.reading.specs.Strings.{readSan, readSubject, readConstraints, readSides}
 use Rattle.reading.specs.Views.{seenSan, seenSubject, seenConstraints}
+use Rattle.reading.specs.Calls.{inputs, outcomeOn}
 use Rattle.entries.specs.Entries.{isSome}
 use Rattle.constrained.specs.Run.{validated, namesOf}
 use Rattle.verdict.specs.Judging.{anyLong, subjectRead, refusalOf}
@@ -41,7 +42,7 @@ no-constraints = refl
 
 module _ (R S J C : List ℕ) where
   abbrev pub whole : Outcome
-  whole = outcomeOf (seenRecords R) (seenSan S) (seenSubject J) (seenConstraints C)
+  whole = outcomeOn (inputs S J C R)
 
   -- all four inputs are read
   pub record AllRead : Type 0 where
@@ -97,7 +98,7 @@ module _ (R S J C : List ℕ) where
   By (suc n) = Refused (suc n) ≡ whole
 
   by : By (refusalOf R S J C)
-  unfolding refusalOf outcomeOf
+  unfolding refusalOf outcomeOn outcomeOf
   by = go (anyLong R S J C) (goodRecords R) (validated readSan S) (subjectRead J) (validated readConstraints C) refl refl refl refl refl
     where
       go : (t g a b c : Bool) → anyLong R S J C ≡ t → goodRecords R ≡ g → validated readSan S ≡ a → subjectRead J ≡ b → validated readConstraints C ≡ c

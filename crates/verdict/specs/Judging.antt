@@ -46,7 +46,7 @@ pub record SmallWitness (san subject : List ℕ) (w : Witness) : Type 0 where
 
 unfoldable pub Small : List ℕ → List ℕ → Outcome → Type 0
 Small san subject (Refused n) = n ≤ sanLimit
-Small san subject (Broken i) = i ≤ sanLimit
+Small san subject (Broken b) = b .presented ≤ sanLimit
 Small san subject (Matched w) = SmallWitness san subject w
 Small san subject Mismatched = T true
 

@@ -3,6 +3,7 @@ use constrained::Broken;
 use constrained::first_broken;
 use pairs::first_pair;
 use records::good_records;
+use rules::Breach;
 use rules::CONSTRAINTS_BROKEN;
 use rules::CONSTRAINTS_LIMIT;
 use rules::CONSTRAINTS_UNREADABLE;
@@ -25,10 +26,9 @@ use strings::san_count;
 use strings::subject_count;
 ghost use Prim.Native.Nat.{_≤_};
 ghost use mathlib.Core.Path.{_≡_};
-ghost use Rattle.rules.specs.Seen.{seenRecords};
-ghost use Rattle.rules.specs.Verdict.{outcomeOf, answered, numbersOf, verdictOf, witnessPart, witnessText, witnessPlace};
+ghost use Rattle.rules.specs.Verdict.{numbers, numbersOf, witnessPart, witnessText, witnessPlace};
 ghost use Rattle.reading.specs.Strings.{readSan, readConstraints};
-ghost use Rattle.reading.specs.Views.{seenSan, seenSubject, seenConstraints};
+ghost use Rattle.reading.specs.Calls.{inputs, outcomeOn, verdictOn, witnessTextOn, witnessPartOn, witnessPlaceOn};
 ghost use Rattle.constrained.specs.Run.{validated};
 ghost use Rattle.verdict.specs.Judging.{anyLong, subjectRead, refusalOf, SmallWitness, Small, SmallNumbers, SmallPlace};
 
@@ -117,7 +117,7 @@ fn refusal(references: &[u8], san: &[u8], subject: &[u8], constraints: &[u8]) ->
 
 // How the verdict ends: the refusals, then the constraints, "even if another name would match", then the first pair.
 pub fn outcome(san: &[u8], subject: &[u8], constraints: &[u8], references: &[u8]) -> Outcome
-    ensures { λ r. ⌜ (r ≡ outcomeOf (seenRecords (now (references .entry))) (seenSan (now (san .entry))) (seenSubject (now (subject .entry))) (seenConstraints (now (constraints .entry))))
+    ensures { λ r. ⌜ (r ≡ outcomeOn (inputs (now (san .entry)) (now (subject .entry)) (now (constraints .entry)) (now (references .entry))))
         × Small (now (san .entry)) (now (subject .entry)) r ⌝ }
 {
     let n = refusal(references, san, subject, constraints);
@@ -126,21 +126,21 @@ pub fn outcome(san: &[u8], subject: &[u8], constraints: &[u8], references: &[u8]
     }
     let b = first_broken(san, constraints);
     match b {
-        Broken::At(i) => Outcome::Broken(i),
+        Broken::At(i) => Outcome::Broken(Breach { presented: i }),
         Broken::Nothing => first_pair(references, san, subject),
     }
 }
 
-// An answer and a presented index, with zeros beside them.
-fn answer(answer: usize, presented: usize) -> Verdict
-    ensures { λ r. ⌜ r ≡ answered answer presented ⌝ }
+// A verdict's numbers, put together in this one place.
+fn five(answer: usize, reference: usize, presented: usize, start: usize, length: usize) -> Verdict
+    ensures { λ r. ⌜ r ≡ numbers answer reference presented start length ⌝ }
 {
     Verdict {
         answer: answer,
-        reference: 0,
+        reference: reference,
         presented: presented,
-        start: 0,
-        length: 0,
+        start: start,
+        length: length,
     }
 }
 
@@ -149,25 +149,19 @@ fn numbers(o: Outcome) -> Verdict
     ensures { λ r. ⌜ r ≡ numbersOf o ⌝ }
 {
     match o {
-        Outcome::Refused(n) => answer(n, 0),
-        Outcome::Broken(i) => answer(CONSTRAINTS_BROKEN, i),
+        Outcome::Refused(n) => five(n, 0, 0, 0, 0),
+        Outcome::Broken(b) => five(CONSTRAINTS_BROKEN, 0, b.presented, 0, 0),
         Outcome::Matched(w) => {
             let place = w.element;
-            Verdict {
-                answer: MATCH,
-                reference: w.reference,
-                presented: w.presented,
-                start: place.start,
-                length: place.length,
-            }
+            five(MATCH, w.reference, w.presented, place.start, place.length)
         }
-        Outcome::Mismatched => answer(MISMATCH, 0),
+        Outcome::Mismatched => five(MISMATCH, 0, 0, 0, 0),
     }
 }
 
 // "A verdict is five numbers: answer, reference index, presented index, start, length."
 pub fn verdict(san: &[u8], subject: &[u8], constraints: &[u8], references: &[u8]) -> Verdict
-    ensures { λ r. ⌜ (r ≡ verdictOf (seenRecords (now (references .entry))) (seenSan (now (san .entry))) (seenSubject (now (subject .entry))) (seenConstraints (now (constraints .entry))))
+    ensures { λ r. ⌜ (r ≡ verdictOn (inputs (now (san .entry)) (now (subject .entry)) (now (constraints .entry)) (now (references .entry))))
         × SmallNumbers r ⌝ }
 {
     let o = outcome(san, subject, constraints, references);
@@ -197,7 +191,7 @@ fn text_of(o: Outcome) -> Place
 
 // Where the text of a verdict's witness lies, for callers that cannot be handed a part of a slice.
 pub fn text_place(san: &[u8], subject: &[u8], constraints: &[u8], references: &[u8]) -> Place
-    ensures { λ r. ⌜ (r ≡ witnessPart (outcomeOf (seenRecords (now (references .entry))) (seenSan (now (san .entry))) (seenSubject (now (subject .entry))) (seenConstraints (now (constraints .entry)))))
+    ensures { λ r. ⌜ (r ≡ witnessPartOn (inputs (now (san .entry)) (now (subject .entry)) (now (constraints .entry)) (now (references .entry))))
         × SmallPlace r ⌝ }
 {
     let o = outcome(san, subject, constraints, references);
@@ -242,8 +236,8 @@ pub fn witness<'a>(
     constraints: &[u8],
     references: &[u8],
 ) -> &'a [u8]
-    ensures bytes { λ r. ⌜ now r ≡ witnessText (now (san .entry)) (now (subject .entry)) (outcomeOf (seenRecords (now (references .entry))) (seenSan (now (san .entry))) (seenSubject (now (subject .entry))) (seenConstraints (now (constraints .entry)))) ⌝ }
-    ensures place { λ r. ⌜ r .ptr ≡ witnessPlace (san .entry .ptr) (subject .entry .ptr) (outcomeOf (seenRecords (now (references .entry))) (seenSan (now (san .entry))) (seenSubject (now (subject .entry))) (seenConstraints (now (constraints .entry)))) ⌝ }
+    ensures bytes { λ r. ⌜ now r ≡ witnessTextOn (inputs (now (san .entry)) (now (subject .entry)) (now (constraints .entry)) (now (references .entry))) ⌝ }
+    ensures place { λ r. ⌜ r .ptr ≡ witnessPlaceOn (inputs (now (san .entry)) (now (subject .entry)) (now (constraints .entry)) (now (references .entry))) (san .entry .ptr) (subject .entry .ptr) ⌝ }
 {
     let o = outcome(san, subject, constraints, references);
     shown(san, subject, o)

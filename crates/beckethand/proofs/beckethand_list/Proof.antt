@@ -37,13 +37,12 @@ use denote.Triple.Spec.{Meets, tripleOf}
 use denote.Triple.Table.{entered, cited}
 use denote.Triple.Walked.{says, Stays, gave-slice, stay-none, stay-none-slice, walkOf, goes-gave-slice, goes-none, goes-none-slice, Walks, ends-at, walked, walk-meets}
 use denote.Exit.{yes}
-use Rattle.rules.specs.Listing.{listedOf, tableAfter}
 use Rattle.rules.specs.declared.Row.{Row}
 use Rattle.rules.specs.declared.Listed.{Listed}
 use Rattle.rules.proofs.Row as T
 use Rattle.rules.proofs.Listed as L
 use Rattle.rules.proofs.Listed.Laws as L′
-use Rattle.listing.specs.Listing.{refusalOf, seenRows}
+use Rattle.reading.specs.Calls.{listingOn, tableOn}
 use Rattle.listing.proofs.list as list
 use Rattle.listing.proofs.list.Symbol as list-def
 use Rattle.listing.proofs.list.Symbol.{name as #listing·list}
@@ -82,7 +81,7 @@ module _ {M : Type 1} (𝓤 : URA M) (H : Heap 𝓤) (A : Atoms 𝓤) (W : Given
 
   -- what is said of the answer and of the last table
   abbrev Said : Listed → List Row → Type 0
-  Said r zs = (r ≡ listedOf (refusalOf w) (seenRows w (xs .now)) (length ys)) × (zs ≡ tableAfter (seenRows w (xs .now)) ys)
+  Said r zs = (r ≡ listingOn w (xs .now) (length ys)) × (zs ≡ tableOn w (xs .now) ys)
 
   abbrev Post : Val → SProp 𝓤
   Post = walkOf 𝓤 H A f.ended stayed (f.clauses 𝓤 H A mem run) .post (((κ, (κ′, tt)), (q, (q′, tt)), tt, a, at), tt)

@@ -48,14 +48,13 @@ use denote.Triple.Spec.{Meets, tripleOf}
 use denote.Triple.Table.{entered, cited}
 use denote.Triple.Walked.{says, needs, Stays, stay-none, stay-none-slice, walkOf, goes-none, goes-none-slice, Walks, ends-at, walked, walk-meets}
 use denote.Exit.{yes}
-use Rattle.rules.specs.Listing.{listedOf, tableAfter}
 use Rattle.rules.specs.declared.Row.{Row}
 use Rattle.rules.specs.declared.Listed.{Listed}
 use Rattle.rules.proofs.Row as T
 use Rattle.rules.proofs.Row.Laws as T′
 use Rattle.rules.proofs.Listed as L
 use Rattle.rules.proofs.Listed.Laws as L′
-use Rattle.listing.specs.Listing.{refusalOf, seenRows}
+use Rattle.reading.specs.Calls.{listingOn, tableOn}
 use Rattle.listing.proofs.list as list
 use Rattle.listing.proofs.list.Symbol as list-def
 use Rattle.listing.proofs.list.Symbol.{name as #listing·list}
@@ -130,14 +129,14 @@ module _ {M : Type 1} (𝓤 : URA M) (H : Heap 𝓤) (A : Atoms 𝓤) (W : Given
 
   -- the table after the call, and the row that is read
   abbrev Z : List Row
-  Z = tableAfter (seenRows w (xs .now)) olds
+  Z = tableOn w (xs .now) olds
 
   abbrev got : Row
   got = getD Z k oldRow
 
   -- what is answered, and what is returned
   abbrev told : Listed
-  told = listedOf (refusalOf w) (seenRows w (xs .now)) 4
+  told = listingOn w (xs .now) 4
 
   abbrev val-told : Val
   val-told = LL.val L.the-type L′.the-laws told

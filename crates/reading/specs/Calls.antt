@@ -1,0 +1,70 @@
+-- Whole calls, as functions of the bytes that they are handed, refused or not. The public contracts cite these names, and the
+-- demands are about them.
+use Prim.Native.Nat.{ℕ}
+use mathlib.Core.Bool.{cond}
+use mathlib.Core.List.{List}
+use lib.Dec.{eqb}
+use Rattle.rules.specs.Numbers.{sanUnreadable, subjectUnreadable, constraintsUnreadable}
+use Rattle.rules.specs.San.{sanGrammar}
+use Rattle.rules.specs.Subject.{subjectGrammar}
+use Rattle.rules.specs.Constraints.{constraintsGrammar}
+use Rattle.rules.specs.Seen.{Seen, seenRecords}
+use Rattle.rules.specs.Verdict.{outcomeOf, numbersOf, witnessPart, witnessText, witnessPlace}
+use Rattle.rules.specs.Listing.{rowsSeen, listedOf, tableAfter}
+use Rattle.rules.specs.declared.Row.{Row}
+use Rattle.rules.specs.declared.Listed.{Listed}
+use Rattle.rules.specs.declared.Place.{Place}
+use Rattle.rules.specs.declared.Verdict.{Verdict}
+use Rattle.rules.specs.declared.Outcome.{Outcome}
+use Rattle.reading.specs.Views.{seenSan, seenSubject, seenConstraints}
+
+-- ---- the verdict and its witness
+
+-- "It hands over four byte strings": any bytes at all
+pub record Inputs : Type 0 where
+  pub san : List ℕ
+  pub subject : List ℕ
+  pub constraints : List ℕ
+  pub references : List ℕ
+
+abbrev pub inputs : List ℕ → List ℕ → List ℕ → List ℕ → Inputs
+inputs san subject constraints references =
+    record { san = san; subject = subject; constraints = constraints; references = references }
+
+-- how the verdict ends
+unfoldable pub outcomeOn : Inputs → Outcome
+outcomeOn i = outcomeOf (seenRecords (i .references)) (seenSan (i .san)) (seenSubject (i .subject)) (seenConstraints (i .constraints))
+
+-- its numbers
+unfoldable pub verdictOn : Inputs → Verdict
+verdictOn i = numbersOf (outcomeOn i)
+
+-- the witness's text; where it lies in its string; and where in memory, by where the SAN and the subject lie
+unfoldable pub witnessTextOn : Inputs → List ℕ
+witnessTextOn i = witnessText (i .san) (i .subject) (outcomeOn i)
+
+unfoldable pub witnessPartOn : Inputs → Place
+witnessPartOn i = witnessPart (outcomeOn i)
+
+unfoldable pub witnessPlaceOn : Inputs → ℕ × ℕ → ℕ × ℕ → ℕ × ℕ
+witnessPlaceOn i san subject = witnessPlace san subject (outcomeOn i)
+
+-- ---- the listing: `which` is 0 for the SAN, 1 for the subject, any other number for the constraints
+
+-- "3, 4 or 5": the answer where that string is unreadable
+unfoldable pub refusalOf : ℕ → ℕ
+refusalOf which = cond (eqb which 0) sanUnreadable (cond (eqb which 1) subjectUnreadable constraintsUnreadable)
+
+-- the rows of what is seen of that string
+unfoldable pub seenRows : ℕ → List ℕ → Seen Row
+seenRows which b =
+    cond (eqb which 0) (rowsSeen sanGrammar (seenSan b))
+    (cond (eqb which 1) (rowsSeen subjectGrammar (seenSubject b)) (rowsSeen constraintsGrammar (seenConstraints b)))
+
+-- answer and count, by the bytes and the number of rows lent
+unfoldable pub listingOn : ℕ → List ℕ → ℕ → Listed
+listingOn which bytes lent = listedOf (refusalOf which) (seenRows which bytes) lent
+
+-- the lent table afterwards
+unfoldable pub tableOn : ℕ → List ℕ → List Row → List Row
+tableOn which bytes table = tableAfter (seenRows which bytes) table
