@@ -1,18 +1,19 @@
 /* beckethand: does a certificate name the server that we mean?
  *
  * A TLS library that has checked a certificate's signatures, dates and standard name constraints asks here, before anything is
- * sent, whether the certificate's names match the names that the caller expects (RFC 6125), and whether its SRVNames keep to the
- * issuer's SRVName restrictions (RFC 4985).
+ * sent, whether the certificate's names match the names that the caller expects (RFC 6125), and whether its SRVNames keep to a
+ * CA's SRVName restrictions (RFC 4985). Both are narrowed by rules of our own, which docs/RULES.md says whole.
  *
  * INPUTS. Four byte strings, each a pointer and a length; a pointer may be NULL where the length is 0. Nothing has to be checked
- * first: every call answers for any bytes at all, reads nothing outside them, allocates nothing and keeps nothing.
+ * first: every call answers for any bytes at all, reads nothing outside them, allocates nothing and keeps nothing. The four may
+ * overlap one another; none may change while a call runs.
  *
- *   san          the value of the subjectAltName extension (a DER SEQUENCE); empty if the certificate has none
- *   subject      the subject, a DER Name; never empty in a certificate (an empty one is answered with 4)
- *   constraints  the value of the issuer's nameConstraints extension; empty if it has none
- *   references   our reference records, 1 to 16 of 320 bytes each: byte 0 kind (1 DNS, 2 SRV, 3 URI, 4 CN), byte 1 zero, byte 2
- *                the service's length, byte 3 the domain's length, bytes 4 to 66 the service (a URI's scheme), bytes 67 to 319
- *                the domain, both filled with zeros
+ *   san          the value of the subjectAltName extension, a DER SEQUENCE; empty if the certificate has none
+ *   subject      the subject, a DER Name. A certificate always has one: a subject without names is the two bytes 30 00
+ *   constraints  the value of a CA's nameConstraints extension, a DER SEQUENCE; empty if it has none. One call takes the
+ *                constraints of one CA: where several CAs of the path have them, call once for each, and go on only if each
+ *                call answers 0
+ *   references   our reference records, 1 to 16 of them, 320 bytes each, end to end: see RECORDS
  *
  * Longest inputs in bytes: san 16,384; subject 4,096; constraints 16,384; references 5,120.
  *
@@ -20,15 +21,38 @@
  *
  *   0  match                          go on
  *   1  mismatch                       do not send: the server is another one
- *   2  an SRVName breaks the constraints   do not send: the issuer had no right to that name; report the certificate
- *   3  san unreadable                 do not send: the certificate is damaged or not DER; report it
- *   4  subject unreadable             do not send: the same
- *   5  constraints unreadable         do not send: the issuer's certificate is damaged or not DER; report it
+ *   2  an SRVName breaks the constraints   do not send: the CA may not give that name; report the certificate
+ *   3  san unreadable                 do not send: report the certificate
+ *   4  subject unreadable             do not send: report the certificate
+ *   5  constraints unreadable         do not send: report the CA's certificate
  *   6  references unreadable          do not send: our own records are wrong; repair the kiosk's settings
  *   7  an input is too long           do not send: report the certificate, or shorten the records
  *   8  table too short                only from beckethand_list: lend as many rows as its count says
  *
- * The first of these that applies is given: 7, then 6, 3, 4, 5, 2, and else 0 or 1.
+ * The first of these that applies is given: 7, then 6, 3, 4, 5, 2, and else 0 or 1. So an empty subject (length 0) is answered with
+ * 4 where nothing is too long, the records are good and the san is absent or readable; else with 7, 6 or 3.
+ *
+ * Unreadable (3, 4, 5) means: damaged; or not DER (a length that is not the shortest, a byte behind the string's element, the
+ * attributes of an RDN out of order); or readable DER that is outside the rules' grammar, for instance
+ *
+ *   san          an SRVName as UTF8String, or an empty one; a byte above 127 in an email address, a dNSName or a URI; no name
+ *   subject      an RDN without attributes; a value whose tag has more than one byte
+ *   constraints  a subtree with a minimum or a maximum; an SRVName as UTF8String; an SRVName restriction that is not _service,
+ *                _service.domain or domain, such as one with a leading dot; neither a permitted nor an excluded subtree
+ *
+ * RECORDS. A good record is 320 bytes:
+ *
+ *   byte 0          kind: 1 DNS, 2 SRV, 3 URI, 4 CN
+ *   byte 1          0
+ *   byte 2          the service's length; 0 for DNS and CN
+ *   byte 3          the domain's length
+ *   bytes 4 to 66   SRV: the service, without its "_": 1 to 62 letters, digits and hyphens, no hyphen at either end.
+ *                   URI: the scheme, without its ":": 1 to 63 bytes, a letter and then letters, digits, "+", "-" and "."
+ *   bytes 67 to 319 the domain: at most 253 bytes, one or more labels joined by single dots; a label is 1 to 63 letters, digits and
+ *                   hyphens, no hyphen at either end. So no trailing dot, no "_" and no "*"; international names as xn-- labels
+ *
+ * What the service and the domain leave free of their fields is 0. Letters are those of ASCII, of either case. One record that is
+ * not good, no record at all, or a length that is no multiple of 320 makes all of them unreadable (6); more than 5,120 bytes are 7.
  */
 #ifndef BECKETHAND_H
 #define BECKETHAND_H
@@ -40,6 +64,7 @@
 extern "C" {
 #endif
 
+/* the answers of a verdict */
 #define BECKETHAND_MATCH 0
 #define BECKETHAND_MISMATCH 1
 #define BECKETHAND_CONSTRAINTS_BROKEN 2
@@ -48,9 +73,31 @@ extern "C" {
 #define BECKETHAND_CONSTRAINTS_UNREADABLE 5
 #define BECKETHAND_REFERENCES_UNREADABLE 6
 #define BECKETHAND_INPUT_TOO_LONG 7
+
+/* the answers of a listing and of the record reader: this 0, or one of the above; 8 is a listing's alone */
+#define BECKETHAND_ACCEPTED 0
 #define BECKETHAND_TABLE_TOO_SHORT 8
 
+/* the longest inputs, in bytes */
+#define BECKETHAND_SAN_LIMIT 16384
+#define BECKETHAND_SUBJECT_LIMIT 4096
+#define BECKETHAND_CONSTRAINTS_LIMIT 16384
+#define BECKETHAND_REFERENCES_LIMIT 5120
+
+/* a reference record: its size, where its fields begin, the sizes of the two fields that hold texts, and the kinds in byte 0 */
 #define BECKETHAND_RECORD_SIZE 320
+#define BECKETHAND_AT_KIND 0
+#define BECKETHAND_AT_SERVICE_LENGTH 2
+#define BECKETHAND_AT_DOMAIN_LENGTH 3
+#define BECKETHAND_AT_SERVICE 4
+#define BECKETHAND_AT_DOMAIN 67
+#define BECKETHAND_SERVICE_SIZE 63
+#define BECKETHAND_DOMAIN_SIZE 253
+
+#define BECKETHAND_DNS 1
+#define BECKETHAND_SRV 2
+#define BECKETHAND_URI 3
+#define BECKETHAND_CN 4
 
 /* beckethand_answer gives the answer, 0 to 7. */
 uint32_t beckethand_answer(const uint8_t *san, size_t san_len, const uint8_t *subject, size_t subject_len,
@@ -80,7 +127,7 @@ uint32_t beckethand_length(const uint8_t *san, size_t san_len, const uint8_t *su
                            size_t references_len);
 
 /* beckethand_text_start and beckethand_text_length give, on answer 0, where that name's text lies, in the subject for a CN record
- * and in the SAN for any other: the content of the dNSName or URI, the SRVName's IA5String, the CN's value. Else 0. */
+ * and in the SAN for any other: the content of the dNSName or URI, of the SRVName's IA5String, of the CN's value. Else 0. */
 uint32_t beckethand_text_start(const uint8_t *san, size_t san_len, const uint8_t *subject, size_t subject_len,
                                const uint8_t *constraints, size_t constraints_len, const uint8_t *references,
                                size_t references_len);
@@ -98,21 +145,46 @@ uint32_t beckethand_record_kind(const uint8_t *references, size_t references_len
 uint32_t beckethand_record_service_length(const uint8_t *references, size_t references_len, size_t index);
 uint32_t beckethand_record_domain_length(const uint8_t *references, size_t references_len, size_t index);
 
-/* A row of a listing. kind: in a SAN or constraints the tag's low five bits, or 9 for an SRVName; in a subject 10 for a CN with tag
- * 0C, 13 or 16, 11 for another CN, 12 for any other attribute. start, length: where the name's DER element lies. group: the
- * entry's index in a SAN, the RDN's index in a subject, 0 for permitted and 1 for excluded in constraints. */
+/* A row of a listing. kind: one of the numbers below. start, length: where the name's DER element lies in the listed bytes: the
+ * GeneralName in a SAN; the attribute's SEQUENCE in a subject; the GeneralName in constraints, without the subtree's SEQUENCE
+ * around it. group: the entry's index in a SAN, the RDN's index in a subject, 0 for permitted and 1 for excluded in constraints. */
 struct beckethand_row {
     size_t kind, start, length, group;
 };
+
+/* kinds in a SAN or constraints: the tag's low five bits, or 9 for an SRVName */
+#define BECKETHAND_ROW_OTHER_NAME 0
+#define BECKETHAND_ROW_EMAIL 1
+#define BECKETHAND_ROW_DNS 2
+#define BECKETHAND_ROW_X400_ADDRESS 3
+#define BECKETHAND_ROW_DIRECTORY_NAME 4
+#define BECKETHAND_ROW_EDI_PARTY_NAME 5
+#define BECKETHAND_ROW_URI 6
+#define BECKETHAND_ROW_IP_ADDRESS 7
+#define BECKETHAND_ROW_REGISTERED_ID 8
+#define BECKETHAND_ROW_SRV 9
+/* kinds in a subject: a CN with tag 0C, 13 or 16 (UTF8String, PrintableString, IA5String); another CN; any other attribute */
+#define BECKETHAND_ROW_CN 10
+#define BECKETHAND_ROW_OTHER_CN 11
+#define BECKETHAND_ROW_OTHER_ATTRIBUTE 12
+/* groups in constraints */
+#define BECKETHAND_PERMITTED 0
+#define BECKETHAND_EXCLUDED 1
 
 struct beckethand_listed {
     size_t answer, count;
 };
 
-/* beckethand_list lists one certificate string: which is 0 for a SAN, 1 for a subject, any other number for constraints. Only that
- * string is judged. It answers 7 or 3, 4 or 5 with count 0; 8, with the count needed, exactly when that exceeds the rows lent; else
- * 0 with the count, and the first count rows of the table hold the names in byte order. Rows past the count keep what they held,
- * and on any answer but 0 all rows do. table may be NULL where lent is 0. */
+/* which string beckethand_list lists; any number but 0 and 1 means constraints */
+#define BECKETHAND_LIST_SAN 0
+#define BECKETHAND_LIST_SUBJECT 1
+#define BECKETHAND_LIST_CONSTRAINTS 2
+
+/* beckethand_list lists one certificate string. Only that string is judged. It answers 7 if the string is too long, or else 3, 4 or
+ * 5 if it is unreadable, each with count 0; 8, with the count needed, exactly when that exceeds the rows lent; else 0 with the
+ * count, and the first count rows of the table hold the names in byte order. Rows past the count keep what they held, and on any
+ * answer but 0 all rows do. An absent SAN, or absent constraints (length 0), lists 0 rows. The table must not overlap the bytes; it
+ * may be NULL where lent is 0. */
 struct beckethand_listed beckethand_list(struct beckethand_row *table, size_t lent, const uint8_t *bytes, size_t bytes_len,
                                          size_t which);
 

@@ -1,4 +1,5 @@
-/* Document 01's desk examples, its old faults and every refusal, through the archive as a kiosk's C program calls it.
+/* Document 01's desk examples, its old faults, every answer, and what the header says of unreadable strings, records and rows,
+ * through the archive as a kiosk's C program calls it.
  *
  * Each input lies in an allocation of exactly its size, and a second time at the very end of a page that is followed by one that
  * may not be touched: a read past the input's end stops the program.
@@ -60,11 +61,11 @@ static struct bytes zeros(size_t len) {
 static void put_record(uint8_t *record, uint8_t kind, const char *service, const char *domain) {
     size_t s = strlen(service), d = strlen(domain);
     memset(record, 0, BECKETHAND_RECORD_SIZE);
-    record[0] = kind;
-    record[2] = (uint8_t)s;
-    record[3] = (uint8_t)d;
-    memcpy(record + 4, service, s);
-    memcpy(record + 67, domain, d);
+    record[BECKETHAND_AT_KIND] = kind;
+    record[BECKETHAND_AT_SERVICE_LENGTH] = (uint8_t)s;
+    record[BECKETHAND_AT_DOMAIN_LENGTH] = (uint8_t)d;
+    memcpy(record + BECKETHAND_AT_SERVICE, service, s);
+    memcpy(record + BECKETHAND_AT_DOMAIN, domain, d);
 }
 
 static struct bytes record(uint8_t kind, const char *service, const char *domain) {
@@ -119,6 +120,9 @@ static void expect(const char *name, struct certificate c, uint32_t a, uint32_t 
     check(name, "another answer at the end of a page", memcmp(got, want, sizeof got) == 0);
 }
 
+/* an answer with zeros beside it */
+static void expect_zeros(const char *name, struct certificate c, uint32_t answer) { expect(name, c, answer, 0, 0, 0, 0); }
+
 /* the witness's text, as a part of the SAN or the subject */
 static void expect_text(const char *name, struct certificate c, bool in_subject, const char *text) {
     uint32_t start = beckethand_text_start(ARGUMENTS(c)), length = beckethand_text_length(ARGUMENTS(c));
@@ -172,24 +176,25 @@ static struct certificate with(const char *san, const char *subject, const char 
 }
 
 static void desk_examples(void) {
-    struct certificate c = with(S, J, "", record(1, "", "A.B"));
+    struct certificate c = with(S, J, "", record(BECKETHAND_DNS, "", "A.B"));
     expect("P16", c, 0, 0, 0, 2, 5);
     expect_text("P16", c, false, "a.b");
-    c = with("", J, "", record(4, "", "a.b"));
+    c = with("", J, "", record(BECKETHAND_CN, "", "a.b"));
     expect("CN", c, 0, 0, 0, 4, 12);
     expect_text("CN", c, true, "a.b");
-    expect("CN blocked by an empty dNSName", with("30 02 82 00", J, "", record(4, "", "a.b")), 1, 0, 0, 0, 0);
-    expect("a length that is not shortest", with("30 81 05 82 03 61 2E 62", J, "", record(1, "", "a.b")), 3, 0, 0, 0, 0);
-    expect("an empty SEQUENCE", with("30 00", J, "", record(1, "", "a.b")), 3, 0, 0, 0, 0);
-    c = with(SRV, J, "", record(2, "m", "b"));
+    expect("CN blocked by an empty dNSName", with("30 02 82 00", J, "", record(BECKETHAND_CN, "", "a.b")), 1, 0, 0, 0, 0);
+    c = with("30 81 05 82 03 61 2E 62", J, "", record(BECKETHAND_DNS, "", "a.b"));
+    expect("a length that is not shortest", c, 3, 0, 0, 0, 0);
+    expect("an empty SEQUENCE", with("30 00", J, "", record(BECKETHAND_DNS, "", "a.b")), 3, 0, 0, 0, 0);
+    c = with(SRV, J, "", record(BECKETHAND_SRV, "m", "b"));
     expect("SRV", c, 0, 0, 0, 2, 20);
     expect_text("SRV", c, false, "_m.b");
-    expect("SRV permitted", with(SRV, J, PERMITS, record(2, "m", "b")), 0, 0, 0, 2, 20);
-    c = with(SRV, J, PERMITS_N, record(2, "m", "b"));
+    expect("SRV permitted", with(SRV, J, PERMITS, record(BECKETHAND_SRV, "m", "b")), 0, 0, 0, 2, 20);
+    c = with(SRV, J, PERMITS_N, record(BECKETHAND_SRV, "m", "b"));
     expect("SRV not permitted", c, 2, 0, 0, 0, 0);
     expect_text("SRV not permitted", c, false, "");
     /* SAN: URI `x://u@a.b:8/p` */
-    c = with("30 0F 86 0D 78 3A 2F 2F 75 40 61 2E 62 3A 38 2F 70", J, "", record(3, "X", "A.b"));
+    c = with("30 0F 86 0D 78 3A 2F 2F 75 40 61 2E 62 3A 38 2F 70", J, "", record(BECKETHAND_URI, "X", "A.b"));
     expect("URI", c, 0, 0, 0, 2, 15);
     expect_text("URI", c, false, "x://u@a.b:8/p");
 }
@@ -198,99 +203,211 @@ static void old_faults(void) {
     /* SRVName `_m.1h.b` with `h.b` permitted */
     expect("the domain test ends on labels",
            with("30 17 A0 15 06 08 2B 06 01 05 05 07 08 07 A0 09 16 07 5F 6D 2E 31 68 2E 62", J,
-                "30 17 A0 15 30 13 A0 11 06 08 2B 06 01 05 05 07 08 07 A0 05 16 03 68 2E 62", record(1, "", "a.b")),
+                "30 17 A0 15 30 13 A0 11 06 08 2B 06 01 05 05 07 08 07 A0 05 16 03 68 2E 62", record(BECKETHAND_DNS, "", "a.b")),
            2, 0, 0, 0, 0);
-    expect("a CN is not cut at a zero byte", with("", "30 10 31 0E 30 0C 06 03 55 04 03 0C 05 61 2E 62 00 63", "", record(4, "", "a.b")),
+    expect("a CN is not cut at a zero byte",
+           with("", "30 10 31 0E 30 0C 06 03 55 04 03 0C 05 61 2E 62 00 63", "", record(BECKETHAND_CN, "", "a.b")),
            1, 0, 0, 0, 0);
     expect("a DNS-ID does not excuse an SRVName",
-           with("30 19 82 03 61 2E 62 A0 12 06 08 2B 06 01 05 05 07 08 07 A0 06 16 04 5F 6D 2E 62", J, PERMITS_N, record(1, "", "a.b")),
+           with("30 19 82 03 61 2E 62 A0 12 06 08 2B 06 01 05 05 07 08 07 A0 06 16 04 5F 6D 2E 62", J, PERMITS_N,
+                record(BECKETHAND_DNS, "", "a.b")),
            2, 0, 1, 0, 0);
     struct bytes two = zeros(2 * BECKETHAND_RECORD_SIZE);
-    put_record(two.at, 1, "", "a.b");
-    put_record(two.at + BECKETHAND_RECORD_SIZE, 1, "", "c.d");
+    put_record(two.at, BECKETHAND_DNS, "", "a.b");
+    put_record(two.at + BECKETHAND_RECORD_SIZE, BECKETHAND_DNS, "", "c.d");
     expect("the lowest reference, then the lowest name", with("30 0A 82 03 63 2E 64 82 03 61 2E 62", J, "", two), 0, 0, 1, 7, 5);
 }
 
-static void refusals(void) {
-    struct certificate c = with(S, J, "", record(1, "", "A.B"));
+static void sizes(void) {
+    struct certificate c = with(S, J, "", record(BECKETHAND_DNS, "", "A.B"));
     struct certificate d = c;
-    struct certificate nothing = {{NULL, 0}, {NULL, 0}, {NULL, 0}, {NULL, 0}};
-    expect("nothing at all", nothing, 6, 0, 0, 0, 0);
-    d.subject.len = 0;
-    d.subject.at = NULL;
-    expect("no subject", d, 4, 0, 0, 0, 0);
+    d.san = zeros(BECKETHAND_SAN_LIMIT + 1);
+    expect_zeros("SAN too long", d, BECKETHAND_INPUT_TOO_LONG);
+    d.san = zeros(BECKETHAND_SAN_LIMIT);
+    expect_zeros("SAN at its limit", d, BECKETHAND_SAN_UNREADABLE);
     d = c;
-    d.san = zeros(16385);
-    expect("SAN too long", d, 7, 0, 0, 0, 0);
-    d.san = zeros(16384);
-    expect("SAN at its limit", d, 3, 0, 0, 0, 0);
+    d.subject = zeros(BECKETHAND_SUBJECT_LIMIT + 1);
+    expect_zeros("subject too long", d, BECKETHAND_INPUT_TOO_LONG);
+    d.subject = zeros(BECKETHAND_SUBJECT_LIMIT);
+    expect_zeros("subject at its limit", d, BECKETHAND_SUBJECT_UNREADABLE);
     d = c;
-    d.subject = zeros(4097);
-    expect("subject too long", d, 7, 0, 0, 0, 0);
-    d.subject = zeros(4096);
-    expect("subject at its limit", d, 4, 0, 0, 0, 0);
+    d.constraints = zeros(BECKETHAND_CONSTRAINTS_LIMIT + 1);
+    expect_zeros("constraints too long", d, BECKETHAND_INPUT_TOO_LONG);
+    d.constraints = zeros(BECKETHAND_CONSTRAINTS_LIMIT);
+    expect_zeros("constraints at their limit", d, BECKETHAND_CONSTRAINTS_UNREADABLE);
     d = c;
-    d.constraints = zeros(16385);
-    expect("constraints too long", d, 7, 0, 0, 0, 0);
-    d.constraints = zeros(16384);
-    expect("constraints at their limit", d, 5, 0, 0, 0, 0);
-    d = c;
+    d.references = zeros(BECKETHAND_REFERENCES_LIMIT + 1);
+    expect_zeros("references too long", d, BECKETHAND_INPUT_TOO_LONG);
     d.references = zeros(17 * BECKETHAND_RECORD_SIZE);
-    expect("17 records", d, 7, 0, 0, 0, 0);
-    d.references = zeros(5119);
-    expect("5,119 bytes of records", d, 6, 0, 0, 0, 0);
-    d.references = zeros(16 * BECKETHAND_RECORD_SIZE);
+    expect_zeros("17 records", d, BECKETHAND_INPUT_TOO_LONG);
+    d.references = zeros(BECKETHAND_REFERENCES_LIMIT - 1);
+    expect_zeros("5,119 bytes of records", d, BECKETHAND_REFERENCES_UNREADABLE);
+    d.references = zeros(BECKETHAND_REFERENCES_LIMIT);
     for (size_t i = 0; i < 16; i++)
-        put_record(d.references.at + i * BECKETHAND_RECORD_SIZE, 1, "", i == 15 ? "a.b" : "c.d");
-    expect("16 records, the last one matches", d, 0, 15, 0, 2, 5);
-    d = with("30 00", "", "30 00", record(1, "", "a.b"));
-    expect("3 before 4 and 5", d, 3, 0, 0, 0, 0);
-    d = with(S, "", "30 00", record(1, "", "a.b"));
-    expect("4 before 5", d, 4, 0, 0, 0, 0);
-    d = with(S, J, "30 00", record(1, "", "a.b"));
-    expect("5", d, 5, 0, 0, 0, 0);
-    d = with("30 00", "", "30 00", record(1, "", ""));
-    expect("6 before 3, 4 and 5", d, 6, 0, 0, 0, 0);
+        put_record(d.references.at + i * BECKETHAND_RECORD_SIZE, BECKETHAND_DNS, "", i == 15 ? "a.b" : "c.d");
+    expect("16 records, the last one matches", d, BECKETHAND_MATCH, 15, 0, 2, 5);
 }
+
+static void order_of_answers(void) {
+    struct certificate nothing = {{NULL, 0}, {NULL, 0}, {NULL, 0}, {NULL, 0}};
+    struct bytes dns = record(BECKETHAND_DNS, "", "a.b"), bad = record(BECKETHAND_DNS, "", "");
+    expect_zeros("nothing at all", nothing, BECKETHAND_REFERENCES_UNREADABLE);
+    struct certificate c = with("30 00", "", "30 00", bad);
+    expect_zeros("6 before 3, 4 and 5", c, BECKETHAND_REFERENCES_UNREADABLE);
+    c.san = zeros(BECKETHAND_SAN_LIMIT + 1);
+    expect_zeros("7 before 6, 4 and 5", c, BECKETHAND_INPUT_TOO_LONG);
+    expect_zeros("3 before 4 and 5", with("30 00", "", "30 00", dns), BECKETHAND_SAN_UNREADABLE);
+    expect_zeros("4 before 5", with(S, "", "30 00", dns), BECKETHAND_SUBJECT_UNREADABLE);
+    expect_zeros("no subject, and no SAN", with("", "", "", dns), BECKETHAND_SUBJECT_UNREADABLE);
+    expect_zeros("5", with(S, J, "30 00", dns), BECKETHAND_CONSTRAINTS_UNREADABLE);
+    expect_zeros("2", with(SRV, J, PERMITS_N, record(BECKETHAND_SRV, "m", "b")), BECKETHAND_CONSTRAINTS_BROKEN);
+    expect_zeros("1", with(S, J, "", record(BECKETHAND_DNS, "", "a.c")), BECKETHAND_MISMATCH);
+    expect("a subject without names", with(S, "30 00", "", dns), BECKETHAND_MATCH, 0, 0, 2, 5);
+}
+
+#define SRV_OID "06 08 2B 06 01 05 05 07 08 07 "
+
+static void unreadable_san(const char *name, const char *san) {
+    expect_zeros(name, with(san, J, "", record(BECKETHAND_DNS, "", "a.b")), BECKETHAND_SAN_UNREADABLE);
+}
+
+static void unreadable_subject(const char *name, const char *subject) {
+    expect_zeros(name, with(S, subject, "", record(BECKETHAND_DNS, "", "a.b")), BECKETHAND_SUBJECT_UNREADABLE);
+}
+
+static void unreadable_constraints(const char *name, const char *constraints) {
+    expect_zeros(name, with(S, J, constraints, record(BECKETHAND_DNS, "", "a.b")), BECKETHAND_CONSTRAINTS_UNREADABLE);
+}
+
+/* what the header names as unreadable: two strings that are not DER, and DER that is outside the rules' grammar */
+static void outside_the_grammar(void) {
+    unreadable_san("a byte behind the element", S " 00");
+    unreadable_subject("attributes out of order", "30 14 31 12 30 07 06 01 2A 0C 02 61 62 30 07 06 01 2A 0C 02 61 61");
+    unreadable_san("an SRVName as UTF8String", "30 14 A0 12 " SRV_OID "A0 06 0C 04 5F 6D 2E 62");
+    unreadable_san("an empty SRVName", "30 10 A0 0E " SRV_OID "A0 02 16 00");
+    unreadable_san("a byte above 127", "30 03 82 01 80");
+    unreadable_subject("an RDN without attributes", "30 02 31 00");
+    unreadable_subject("a tag of two bytes", "30 0C 31 0A 30 08 06 03 55 04 03 1F 1F 00");
+    unreadable_constraints("a minimum", "30 19 A0 17 30 15 A0 10 " SRV_OID "A0 04 16 02 5F 6D 80 01 01");
+    unreadable_constraints("a maximum", "30 19 A0 17 30 15 A0 10 " SRV_OID "A0 04 16 02 5F 6D 81 01 05");
+    unreadable_constraints("a leading dot", "30 16 A0 14 30 12 A0 10 " SRV_OID "A0 04 16 02 2E 62");
+    unreadable_constraints("a restriction as UTF8String", "30 16 A0 14 30 12 A0 10 " SRV_OID "A0 04 0C 02 5F 6D");
+}
+
+/* ---- records */
+
+static void expect_record(const char *name, struct bytes b, size_t index, uint32_t answer, uint32_t kind, uint32_t service,
+                          uint32_t domain) {
+    cases++;
+    check(name, "the answer", beckethand_record_answer(b.at, b.len, index) == answer);
+    check(name, "the kind", beckethand_record_kind(b.at, b.len, index) == kind);
+    check(name, "the service's length", beckethand_record_service_length(b.at, b.len, index) == service);
+    check(name, "the domain's length", beckethand_record_domain_length(b.at, b.len, index) == domain);
+}
+
+static void expect_bad(const char *name, struct bytes b) { expect_record(name, b, 0, 6, 0, 0, 0); }
 
 static void records(void) {
     struct bytes b = zeros(2 * BECKETHAND_RECORD_SIZE);
-    put_record(b.at, 2, "mail", "a.b");
-    put_record(b.at + BECKETHAND_RECORD_SIZE, 4, "", "c.example");
-    cases++;
-    check("record 0", "numbers", beckethand_record_answer(b.at, b.len, 0) == 0 && beckethand_record_kind(b.at, b.len, 0) == 2 &&
-          beckethand_record_service_length(b.at, b.len, 0) == 4 && beckethand_record_domain_length(b.at, b.len, 0) == 3);
-    check("record 1", "numbers", beckethand_record_answer(b.at, b.len, 1) == 0 && beckethand_record_kind(b.at, b.len, 1) == 4 &&
-          beckethand_record_service_length(b.at, b.len, 1) == 0 && beckethand_record_domain_length(b.at, b.len, 1) == 9);
-    check("past the last", "numbers", beckethand_record_answer(b.at, b.len, 2) == 0 && beckethand_record_kind(b.at, b.len, 2) == 0 &&
-          beckethand_record_domain_length(b.at, b.len, SIZE_MAX) == 0);
+    put_record(b.at, BECKETHAND_SRV, "mail", "a.b");
+    put_record(b.at + BECKETHAND_RECORD_SIZE, BECKETHAND_CN, "", "c.example");
+    expect_record("record 0", b, 0, 0, 2, 4, 3);
+    expect_record("record 1", b, 1, 0, 4, 0, 9);
+    expect_record("past the last", b, 2, 0, 0, 0, 0);
+    expect_record("far past the last", b, SIZE_MAX, 0, 0, 0, 0);
     b.at[1] = 1;
-    check("a bad record", "numbers", beckethand_record_answer(b.at, b.len, 1) == 6 && beckethand_record_kind(b.at, b.len, 1) == 0);
-    check("no records", "answer", beckethand_record_answer(NULL, 0, 0) == 6);
+    expect_record("byte 1 is not 0", b, 1, 6, 0, 0, 0);
+    expect_bad("no records", (struct bytes){NULL, 0});
+    expect_record("too long", zeros(BECKETHAND_REFERENCES_LIMIT + 1), 0, 7, 0, 0, 0);
+}
+
+#define SIXTY "abcdefghijabcdefghijabcdefghijabcdefghijabcdefghijabcdefghij"
+
+/* what a good record is, as the header says it */
+static void good_and_bad_records(void) {
+    const char *domain_253 = SIXTY "abc." SIXTY "abc." SIXTY "abc." SIXTY "a";
+    expect_record("a domain of 253 bytes", record(BECKETHAND_DNS, "", domain_253), 0, 0, 1, 0, BECKETHAND_DOMAIN_SIZE);
+    expect_record("a service of 62 bytes", record(BECKETHAND_SRV, SIXTY "ab", "b"), 0, 0, 2, 62, 1);
+    expect_record("a scheme of 63 bytes", record(BECKETHAND_URI, SIXTY "+-.", "b"), 0, 0, 3, BECKETHAND_SERVICE_SIZE, 1);
+    expect_bad("a domain of no bytes", record(BECKETHAND_DNS, "", ""));
+    expect_bad("a trailing dot", record(BECKETHAND_DNS, "", "a.b."));
+    expect_bad("an underscore", record(BECKETHAND_DNS, "", "_a.b"));
+    expect_bad("a wildcard", record(BECKETHAND_DNS, "", "*.a.b"));
+    expect_bad("a hyphen at an end", record(BECKETHAND_DNS, "", "a-.b"));
+    expect_bad("a label of 64 bytes", record(BECKETHAND_DNS, "", SIXTY "abcd.b"));
+    expect_bad("DNS with a service", record(BECKETHAND_DNS, "m", "b"));
+    expect_bad("CN with a service", record(BECKETHAND_CN, "m", "b"));
+    expect_bad("SRV without a service", record(BECKETHAND_SRV, "", "b"));
+    expect_bad("a service with its underscore", record(BECKETHAND_SRV, "_m", "b"));
+    expect_bad("a service of 63 bytes", record(BECKETHAND_SRV, SIXTY "abc", "b"));
+    expect_bad("a scheme that begins with a digit", record(BECKETHAND_URI, "1a", "b"));
+    expect_bad("kind 0", record(0, "", "a.b"));
+    expect_bad("kind 5", record(5, "", "a.b"));
+    struct bytes b = record(BECKETHAND_DNS, "", "a.b");
+    b.at[BECKETHAND_AT_DOMAIN + 3] = 'c';
+    expect_bad("a domain field that is not filled with zeros", b);
+    b = record(BECKETHAND_DNS, "", domain_253);
+    b.at[BECKETHAND_AT_DOMAIN_LENGTH] = BECKETHAND_DOMAIN_SIZE + 1;
+    expect_bad("a domain's length of 254", b);
 }
 
 static void listings(void) {
     struct beckethand_row s = {2, 2, 5, 0}, j = {10, 4, 12, 0}, srv = {9, 2, 20, 0}, subtree = {9, 6, 18, 0};
-    expect_list("S", from_hex(S), 0, 3, 0, 1, &s);
-    expect_list("S, no room", from_hex(S), 0, 0, 8, 1, NULL);
-    expect_list("J", from_hex(J), 1, 1, 0, 1, &j);
-    expect_list("SRVName", from_hex(SRV), 0, 2, 0, 1, &srv);
-    expect_list("constraints", from_hex(PERMITS), 2, 2, 0, 1, &subtree);
-    expect_list("no SAN", from_hex(""), 0, 2, 0, 0, NULL);
-    expect_list("no constraints, no room", from_hex(""), 2, 0, 0, 0, NULL);
-    expect_list("no subject", from_hex(""), 1, 2, 4, 0, NULL);
-    expect_list("30 00 as SAN", from_hex("30 00"), 0, 2, 3, 0, NULL);
-    expect_list("30 00 as subject", from_hex("30 00"), 1, 2, 0, 0, NULL);
-    expect_list("30 00 as constraints", from_hex("30 00"), 2, 2, 5, 0, NULL);
-    expect_list("too long", zeros(16385), 0, 2, 7, 0, NULL);
+    expect_list("S", from_hex(S), BECKETHAND_LIST_SAN, 3, 0, 1, &s);
+    expect_list("S, no room", from_hex(S), BECKETHAND_LIST_SAN, 0, 8, 1, NULL);
+    expect_list("J", from_hex(J), BECKETHAND_LIST_SUBJECT, 1, 0, 1, &j);
+    expect_list("SRVName", from_hex(SRV), BECKETHAND_LIST_SAN, 2, 0, 1, &srv);
+    expect_list("constraints", from_hex(PERMITS), BECKETHAND_LIST_CONSTRAINTS, 2, 0, 1, &subtree);
+    expect_list("no SAN", from_hex(""), BECKETHAND_LIST_SAN, 2, 0, 0, NULL);
+    expect_list("no constraints, no room", from_hex(""), BECKETHAND_LIST_CONSTRAINTS, 0, 0, 0, NULL);
+    expect_list("no subject", from_hex(""), BECKETHAND_LIST_SUBJECT, 2, 4, 0, NULL);
+    expect_list("30 00 as SAN", from_hex("30 00"), BECKETHAND_LIST_SAN, 2, 3, 0, NULL);
+    expect_list("30 00 as subject", from_hex("30 00"), BECKETHAND_LIST_SUBJECT, 2, 0, 0, NULL);
+    expect_list("30 00 as constraints", from_hex("30 00"), BECKETHAND_LIST_CONSTRAINTS, 2, 5, 0, NULL);
+    expect_list("too long", zeros(BECKETHAND_SAN_LIMIT + 1), BECKETHAND_LIST_SAN, 2, 7, 0, NULL);
+}
+
+/* a row of every kind and group, by the header's names */
+static void kinds_of_rows(void) {
+    const struct beckethand_row entries[] = {
+        {BECKETHAND_ROW_OTHER_NAME, 2, 9, 0},
+        {BECKETHAND_ROW_EMAIL, 11, 3, 1},
+        {BECKETHAND_ROW_DNS, 14, 3, 2},
+        {BECKETHAND_ROW_X400_ADDRESS, 17, 2, 3},
+        {BECKETHAND_ROW_DIRECTORY_NAME, 19, 4, 4},
+        {BECKETHAND_ROW_EDI_PARTY_NAME, 23, 2, 5},
+        {BECKETHAND_ROW_URI, 25, 3, 6},
+        {BECKETHAND_ROW_IP_ADDRESS, 28, 6, 7},
+        {BECKETHAND_ROW_REGISTERED_ID, 34, 3, 8},
+        {BECKETHAND_ROW_SRV, 37, 20, 9},
+    };
+    expect_list("every kind in a SAN",
+                from_hex("30 37 A0 07 06 01 2A A0 02 05 00 81 01 61 82 01 61 A3 00 A4 02 30 00 A5 00 86 01 61 87 04 7F 00 00 01"
+                         " 88 01 2A A0 12 " SRV_OID "A0 06 16 04 5F 6D 2E 62"),
+                BECKETHAND_LIST_SAN, 11, BECKETHAND_ACCEPTED, 10, entries);
+    const struct beckethand_row attributes[] = {
+        {BECKETHAND_ROW_CN, 4, 12, 0}, {BECKETHAND_ROW_OTHER_CN, 18, 11, 1}, {BECKETHAND_ROW_OTHER_ATTRIBUTE, 31, 10, 2}};
+    expect_list("every kind in a subject",
+                from_hex("30 27 31 0C 30 0A 06 03 55 04 03 0C 03 61 2E 62 31 0B 30 09 06 03 55 04 03 1E 02 00 61"
+                         " 31 0A 30 08 06 03 55 04 0A 0C 01 61"),
+                BECKETHAND_LIST_SUBJECT, 4, BECKETHAND_ACCEPTED, 3, attributes);
+    const struct beckethand_row subtrees[] = {{BECKETHAND_ROW_SRV, 6, 18, BECKETHAND_PERMITTED},
+                                              {BECKETHAND_ROW_DNS, 28, 3, BECKETHAND_EXCLUDED}};
+    struct bytes both = from_hex("30 1D A0 14 30 12 A0 10 " SRV_OID "A0 04 16 02 5F 6D A1 05 30 03 82 01 62");
+    expect_list("both groups in constraints", both, BECKETHAND_LIST_CONSTRAINTS, 2, BECKETHAND_ACCEPTED, 2, subtrees);
+    expect_list("any number but 0 and 1 means constraints", both, SIZE_MAX, 1, BECKETHAND_TABLE_TOO_SHORT, 2, NULL);
 }
 
 int main(void) {
     desk_examples();
     old_faults();
-    refusals();
+    sizes();
+    order_of_answers();
+    outside_the_grammar();
     records();
+    good_and_bad_records();
     listings();
+    kinds_of_rows();
     printf("C: %d cases, %d failures\n", cases, failures);
     return failures != 0;
 }
