@@ -18,10 +18,9 @@ fn main() {
         "{} is missing: build it, or name its folder in BECKETHAND_LIB_DIR",
         archive.display()
     );
-    // The archive comes last on the linker's line. It may bring a panic handler
-    // of its own; the one of the standard library stands before it and is kept.
+    // The archive defines the `beckethand_` functions and nothing else that a
+    // linker sees, no panic handler either; of others it needs `memset` alone.
     println!("cargo:rustc-link-arg={}", archive.display());
-    println!("cargo:rustc-link-arg=-Wl,--allow-multiple-definition");
 }
 
 fn folder() -> PathBuf {
