@@ -93,10 +93,10 @@ subjectString = record {
   Name = Member Attribute;
   input = subjectInput;
   refusal = subjectUnreadable;
-  element = λ m. writeAttribute (m .value);
-  front = λ list i m. head 0x30 (run writeSet (groups list)) ++ frontInGroups writeAttribute (λ g. 0x31) i (groups list);
-  Kind = λ m. AttributeKind (m .value);
-  group = λ i m. m .group;
+  element = λ attribute. writeAttribute (attribute .value);
+  front = λ list i attribute. head 0x30 (run writeSet (groups list)) ++ frontInGroups writeAttribute (λ g. 0x31) i (groups list);
+  Kind = λ attribute. AttributeKind (attribute .value);
+  group = λ i attribute. attribute .group;
 }
 
 -- a subtree's element is its GeneralName, and before that stands the head of the 30 element that holds it
@@ -105,12 +105,12 @@ constraintsString = record {
   Name = Member GeneralName;
   input = constraintsInput;
   refusal = constraintsUnreadable;
-  element = λ m. writeName (m .value);
-  front = λ list i m.
+  element = λ subtree. writeName (subtree .value);
+  front = λ list i subtree.
       head 0x30 (run writeSide (groups list))
-      ++ (frontInGroups writeSubtree (λ g. 0xA0 + g .number) i (groups list) ++ head 0x30 (writeName (m .value)));
-  Kind = λ m. NameKind (m .value);
-  group = λ i m. m .group;
+      ++ (frontInGroups writeSubtree (λ g. 0xA0 + g .number) i (groups list) ++ head 0x30 (writeName (subtree .value)));
+  Kind = λ subtree. NameKind (subtree .value);
+  group = λ i subtree. subtree .group;
 }
 
 -- the string that a listing lists: 0 is the SAN, 1 the subject, any other number the constraints
