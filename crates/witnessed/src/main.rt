@@ -1,0 +1,114 @@
+// Asks for the witness of fixed certificates: for each a line with the verdict's five numbers, where the witness's text starts in its
+// string and how long it is, and the text itself, as it was handed back. The references are DNS, SRV, URI and CN, all for `a.b`, with
+// the service or scheme `m`.
+use libc::STDOUT_FILENO;
+ghost use Prim.Native.Nat.{_≤_};
+
+const REFERENCES: usize = 4 * rules::RECORD_SIZE;
+
+// Document 01's J: a subject with the CN `a.b`.
+const J: [u8; 16] = *b"\x30\x0E\x31\x0C\x30\x0A\x06\x03\x55\x04\x03\x0C\x03\x61\x2E\x62";
+
+// Writes a record over zeros, with the service `m` where the length asks for one.
+fn put(b: &mut [u8; REFERENCES], at: usize, kind: u8, service: u8)
+    requires { ⌜ at ≤ 960 ⌝ }
+{
+    b[at] = kind;
+    b[at + 2] = service;
+    b[at + 3] = 3;
+    if service == 1 {
+        b[at + 4] = b'm';
+    }
+    b[at + 67] = b'a';
+    b[at + 68] = b'.';
+    b[at + 69] = b'b';
+}
+
+fn write_number(before: &[u8], n: usize) {
+    io::write_all(STDOUT_FILENO, before);
+    io::print_decimal(STDOUT_FILENO, n as u64);
+}
+
+fn write_verdict(v: rules::Verdict) {
+    write_number(b": ", v.answer);
+    write_number(b" ", v.reference);
+    write_number(b" ", v.presented);
+    write_number(b" ", v.start);
+    write_number(b" ", v.length);
+}
+
+fn references() -> [u8; REFERENCES] {
+    let mut b = [0u8; REFERENCES];
+    put(&mut b, 0, rules::DNS, 0);
+    put(&mut b, 320, rules::SRV, 1);
+    put(&mut b, 640, rules::URI, 1);
+    put(&mut b, 960, rules::CN, 0);
+    b
+}
+
+fn show_on<'a>(
+    title: &[u8],
+    san: &'a [u8],
+    subject: &'a [u8],
+    constraints: &[u8],
+    records: &[u8; REFERENCES],
+) {
+    let all = &records[..];
+    io::write_all(STDOUT_FILENO, title);
+    write_verdict(verdict::verdict(san, subject, constraints, all));
+    let place = verdict::text_place(san, subject, constraints, all);
+    write_number(b"; ", place.start);
+    write_number(b" ", place.length);
+    let text = verdict::witness(san, subject, constraints, all);
+    io::write_all(STDOUT_FILENO, b"; \"");
+    io::write_all(STDOUT_FILENO, text);
+    io::write_all(STDOUT_FILENO, b"\"\n");
+}
+
+fn show<'a>(title: &[u8], san: &'a [u8], subject: &'a [u8], constraints: &[u8]) {
+    let records = references();
+    show_on(title, san, subject, constraints, &records);
+}
+
+// Matches in the SAN.
+fn in_san() {
+    show(b"dNSName", b"\x30\x05\x82\x03a.b", &J, b"");
+    show(b"wildcard", b"\x30\x05\x82\x03*.b", &J, b"");
+    show(b"second name", b"\x30\x0A\x82\x03x.b\x82\x03A.B", &J, b"");
+    show(
+        b"SRVName",
+        b"\x30\x16\xA0\x14\x06\x08\x2B\x06\x01\x05\x05\x07\x08\x07\xA0\x08\x16\x06_m.a.b",
+        &J,
+        b"",
+    );
+    show(b"URI", b"\x30\x09\x86\x07m://a.b", &J, b"");
+}
+
+// Matches in the subject.
+fn in_subject() {
+    show(b"CN", b"", &J, b"");
+    show(
+        b"CN of the second set",
+        b"\x30\x03\x81\x01@",
+        b"\x30\x18\x31\x08\x30\x06\x06\x01\x2A\x0C\x01\x62\x31\x0C\x30\x0A\x06\x03\x55\x04\x03\x13\x03*.b",
+        b"",
+    );
+}
+
+// No match: another name, an unreadable SAN, and an SRVName outside the only permitted subtree.
+fn nowhere() {
+    show(b"mismatch", b"\x30\x05\x82\x03x.b", &J, b"");
+    show(b"unreadable", b"\x30\x00", &J, b"");
+    show(
+        b"constraints broken",
+        b"\x30\x16\xA0\x14\x06\x08\x2B\x06\x01\x05\x05\x07\x08\x07\xA0\x08\x16\x06_m.a.b",
+        &J,
+        b"\x30\x16\xA0\x14\x30\x12\xA0\x10\x06\x08\x2B\x06\x01\x05\x05\x07\x08\x07\xA0\x04\x16\x02_n",
+    );
+}
+
+fn main() {
+    in_san();
+    in_subject();
+    nowhere();
+}
