@@ -1,6 +1,6 @@
 // Lists fixed strings into a table of four rows that held other rows before, and writes for each the answer, the count and the
 // rows; for long lists the answer and the count with 512 rows lent, and the last row. `which` is 0 for a SAN, 1 for a subject,
-// 2 for constraints.
+// 2 for constraints. The stored output is held, line by line, to the second program's listings (tests/second/tests/stored.rs).
 ghost use Prim.Native.Nat.{_+_, _<_, _≤_};
 ghost use mathlib.Core.Path.{_≡_};
 ghost use Rattle.listed.specs.After.{afterOf};

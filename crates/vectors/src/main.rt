@@ -6,6 +6,9 @@
 //   r SRV-ID     R service, domain, text: they match     u URI-ID     U scheme, domain, text: they match
 //   x restriction     X subtree, SRV-ID: the name lies in it
 // The line is written back behind 1 where the rule holds and 0 where it does not.
+//
+// The stored output is held, line by line, to what the second program says of the same vectors and records
+// (tests/second/tests/stored.rs).
 use libc::STDOUT_FILENO;
 
 // Everything up to the first space.

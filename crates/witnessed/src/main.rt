@@ -1,6 +1,6 @@
 // Asks for the witness of fixed certificates: for each a line with the verdict's five numbers, where the witness's text starts in its
 // string and how long it is, and the text itself, as it was handed back. The references are DNS, SRV, URI and CN, all for `a.b`, with
-// the service or scheme `m`.
+// the service or scheme `m`. The stored output is held, line by line, to the second program's (tests/second/tests/stored.rs).
 use libc::STDOUT_FILENO;
 ghost use Prim.Native.Nat.{_≤_};
 

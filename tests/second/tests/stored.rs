@@ -1,0 +1,287 @@
+//! The stored output of the programs `vectors`, `listed` and `witnessed`, line
+//! by line from this implementation.
+
+use second::records::kind::{CN, DNS, SRV, URI};
+use second::text::{is_domain, is_scheme, is_service, is_srv_subtree, lies_in, srv_id};
+use second::tree::{dns_name, record, san, srv_name, uri_name, Node};
+use second::{answer, examples::J, judge, list, list_into, verdict, Row, Which};
+use std::fs;
+
+/// A file beside the source of one of the programs.
+fn file(name: &str) -> Vec<u8> {
+    let path = format!("{}/../../crates/{name}", env!("CARGO_MANIFEST_DIR"));
+    fs::read(&path).unwrap_or_else(|error| panic!("{path}: {error}"))
+}
+
+/// Holds the lines to a stored output.
+fn stored(program: &str, lines: &[Vec<u8>]) {
+    let stored = file(&format!("{program}/stdout"));
+    let stored: Vec<&[u8]> = stored.split_inclusive(|&byte| byte == b'\n').collect();
+    for (number, line) in lines.iter().enumerate() {
+        let line = [line.as_slice(), b"\n"].concat();
+        let there = stored.get(number).copied().unwrap_or_default();
+        let show = String::from_utf8_lossy;
+        assert_eq!(show(there), show(&line), "{program}, line {}", number + 1);
+        assert_eq!(there, line, "{program}, line {}", number + 1);
+    }
+    assert_eq!(stored.len(), lines.len(), "{program}: lines");
+}
+
+/// Whether a SAN of this one name matches this one reference.
+fn matches(name: Node, kind: u8, service: &[u8], domain: &[u8]) -> bool {
+    let fits = service.len() <= 63 && domain.len() <= 253;
+    let names = san(vec![name]).write();
+    fits && verdict(&names, &J, &[], &record(kind, service, domain)).answer == answer::MATCH
+}
+
+/// A DNS-ID matches the domain in which `*` is a label of one letter.
+fn is_dns_id(text: &[u8]) -> bool {
+    let domain = match text {
+        [b'*', b'.', rest @ ..] => [b"a.", rest].concat(),
+        _ => text.to_vec(),
+    };
+    matches(dns_name(text), DNS, b"", &domain)
+}
+
+/// A URI-ID matches the scheme before its first colon and some domain in it.
+fn is_uri_id(text: &[u8]) -> bool {
+    second::text::uri_parts(text)
+        .is_some_and(|(scheme, domain)| matches(uri_name(text), URI, scheme, domain))
+}
+
+/// What stands before the first space, and what stands behind it.
+fn cut(text: &[u8]) -> (&[u8], &[u8]) {
+    match text.iter().position(|&byte| byte == b' ') {
+        Some(at) => (&text[..at], &text[at + 1..]),
+        None => (text, b""),
+    }
+}
+
+/// The rule of a line of `vectors`, by its letter.
+fn holds(rule: u8, text: &[u8]) -> bool {
+    let (first, rest) = cut(text);
+    let (second, third) = cut(rest);
+    match rule {
+        b'd' => is_domain(text),
+        b's' => is_service(text),
+        b'h' => is_scheme(text),
+        b'n' => is_dns_id(text),
+        b'N' => matches(dns_name(rest), DNS, b"", first),
+        b'r' => srv_id(text).is_some(),
+        b'R' => matches(srv_name(third), SRV, first, second),
+        b'u' => is_uri_id(text),
+        b'U' => matches(uri_name(third), URI, first, second),
+        b'x' => is_srv_subtree(text),
+        b'X' => srv_id(rest).is_some_and(|pair| lies_in(pair, first)),
+        _ => panic!("no rule has the letter {rule}"),
+    }
+}
+
+/// The answer of the record reader, as one digit.
+fn reader(references: &[u8]) -> u8 {
+    b'0' + second::record(references, 0).answer as u8
+}
+
+/// The answers of a record with each byte one more in turn, 64 to a line.
+fn changes(good: &[u8]) -> Vec<Vec<u8>> {
+    let changed = |at: usize| {
+        let mut bytes = good.to_vec();
+        bytes[at] = bytes[at].wrapping_add(1);
+        reader(&bytes)
+    };
+    let answers: Vec<u8> = (0..good.len()).map(changed).collect();
+    answers.chunks(64).map(<[u8]>::to_vec).collect()
+}
+
+#[test]
+fn vectors() {
+    let input = file("vectors/stdin");
+    let vectors = input.split(|&byte| byte == b'\n');
+    let mut lines: Vec<Vec<u8>> = vectors
+        .filter(|line| line.len() >= 2)
+        .map(|line| {
+            let digit = b'0' + u8::from(holds(line[0], &line[2..]));
+            [&[digit, b' '], line].concat()
+        })
+        .collect();
+    for (kind, service) in [(DNS, ""), (SRV, "m"), (URI, "m"), (CN, "")] {
+        lines.extend(changes(&record(kind, service.as_bytes(), b"a.b")));
+    }
+    let many = record(DNS, b"", b"a.b").repeat(17);
+    let sizes = [0, 320, 5119, 5120, 5121, 5440];
+    lines.push(sizes.map(|size| reader(&many[..size])).to_vec());
+    stored("vectors", &lines);
+}
+
+/// Four numbers of a row.
+fn numbers(row: &Row) -> String {
+    format!("{} {} {} {}", row.kind, row.start, row.length, row.group)
+}
+
+/// A listing into four rows that held other rows before.
+fn in_four(title: &str, which: Which, bytes: &[u8]) -> Vec<u8> {
+    let mut table = [77; 4].map(|old| Row {
+        kind: old,
+        start: old,
+        length: old,
+        group: old,
+    });
+    let listed = list_into(&mut table, bytes, which);
+    let rows = table.each_ref().map(numbers).join(", ");
+    format!("{title}: {} {}; {rows}", listed.answer, listed.count).into_bytes()
+}
+
+/// A listing of a SAN with 512 rows lent, and the last row of it.
+fn for_512(title: &str, bytes: &[u8]) -> Vec<u8> {
+    let rows = list(bytes, Which::San).rows;
+    match rows.last().filter(|_| rows.len() <= 512) {
+        Some(row) => format!("{title}: 0 {}; {}", rows.len(), numbers(row)),
+        None => format!("{title}: 8 {}", rows.len()),
+    }
+    .into_bytes()
+}
+
+/// The strings that `listed` spells out.
+const SPELLED: [(&str, Which, &[u8]); 19] = [
+    ("S", Which::San, b"\x30\x05\x82\x03a.b"),
+    ("J", Which::Subject, b"\x30\x0E\x31\x0C\x30\x0A\x06\x03\x55\x04\x03\x0C\x03a.b"),
+    ("SRVName", Which::San, b"\x30\x14\xA0\x12\x06\x08\x2B\x06\x01\x05\x05\x07\x08\x07\xA0\x06\x16\x04_m.b"),
+    ("constraints", Which::Constraints, b"\x30\x16\xA0\x14\x30\x12\xA0\x10\x06\x08\x2B\x06\x01\x05\x05\x07\x08\x07\xA0\x04\x16\x02_m"),
+    ("long form of a short length", Which::San, b"\x30\x81\x05\x82\x03a.b"),
+    ("30 00 as a SAN", Which::San, b"\x30\x00"),
+    ("30 00 as a subject", Which::Subject, b"\x30\x00"),
+    ("30 00 as constraints", Which::Constraints, b"\x30\x00"),
+    ("no SAN", Which::San, b""),
+    ("no subject", Which::Subject, b""),
+    ("no constraints", Which::Constraints, b""),
+    ("three entries", Which::San, b"\x30\x09\x82\x01a\x86\x00\x87\x02\xFF\xFF"),
+    ("four entries", Which::San, b"\x30\x08\x82\x00\x82\x00\x82\x00\x82\x00"),
+    ("five entries", Which::San, b"\x30\x0A\x82\x00\x82\x00\x82\x00\x82\x00\x82\x00"),
+    ("a byte after the SAN", Which::San, b"\x30\x02\x82\x00\x00"),
+    ("two sets", Which::Subject, b"\x30\x1C\x31\x10\x30\x06\x06\x01\x2A\x0C\x01a\x30\x06\x06\x01\x2A\x0C\x01b\x31\x08\x30\x06\x06\x01\x2A\x05\x01b"),
+    ("a set out of order", Which::Subject, b"\x30\x12\x31\x10\x30\x06\x06\x01\x2A\x0C\x01b\x30\x06\x06\x01\x2A\x0C\x01a"),
+    ("both sides", Which::Constraints, b"\x30\x10\xA0\x04\x30\x02\x82\x00\xA1\x08\x30\x02\x82\x00\x30\x02\x81\x00"),
+    ("sides out of order", Which::Constraints, b"\x30\x0C\xA1\x04\x30\x02\x82\x00\xA0\x04\x30\x02\x82\x00"),
+];
+
+/// A tag and a length in one, two or three bytes, whichever is asked for.
+fn header(tag: u8, length: usize, form: usize) -> Vec<u8> {
+    let [high, low] = (length as u16).to_be_bytes();
+    match form {
+        1 => vec![tag, low],
+        2 => vec![tag, 0x81, low],
+        _ => vec![tag, 0x82, high, low],
+    }
+}
+
+/// A SAN of one dNSName whose length may be in a wrong form.
+fn one_name(length: usize, form: usize) -> Vec<u8> {
+    let name = [header(0x82, length, form), vec![b'a'; length]].concat();
+    let shortest = 1 + usize::from(name.len() > 127) + usize::from(name.len() > 255);
+    [header(0x30, name.len(), shortest), name].concat()
+}
+
+/// Elements around one another, each with two bytes of length, so that there
+/// are `size` bytes in all. `before` stands before the innermost.
+fn nested(size: usize, tags: &[u8], before: &[u8], last: u8) -> Vec<u8> {
+    let mut bytes = Vec::new();
+    for &tag in tags {
+        bytes.extend(header(tag, size - bytes.len() - 4, 3));
+    }
+    bytes.extend(before);
+    bytes.extend(header(last, size - bytes.len() - 4, 3));
+    bytes.resize(size, b'a');
+    bytes
+}
+
+#[test]
+fn listed() {
+    let mut lines: Vec<Vec<u8>> = SPELLED
+        .iter()
+        .map(|(title, which, bytes)| in_four(title, *which, bytes))
+        .collect();
+    let forms = ["", " in one", " in two", " in three"];
+    let lengths = [(127, 1), (127, 2), (128, 1), (128, 2), (128, 3)];
+    for (length, form) in lengths
+        .into_iter()
+        .chain([(255, 2), (255, 3), (256, 2), (256, 3)])
+    {
+        let unit = if (length, form) == (127, 1) {
+            " byte"
+        } else {
+            ""
+        };
+        let title = format!("{length}{}{unit}", forms[form]);
+        lines.push(in_four(&title, Which::San, &one_name(length, form)));
+    }
+    for (title, size) in [("SAN of 16384 bytes", 16384), ("SAN of 16385", 16385)] {
+        lines.push(in_four(
+            title,
+            Which::San,
+            &nested(size, &[0x30], b"", 0x82),
+        ));
+    }
+    for size in [4096, 4097] {
+        let bytes = nested(size, &[0x30, 0x31, 0x30], b"\x06\x03\x55\x04\x03", 0x0C);
+        lines.push(in_four(
+            &format!("subject of {size}"),
+            Which::Subject,
+            &bytes,
+        ));
+    }
+    for size in [16384, 16385] {
+        let bytes = nested(size, &[0x30, 0xA1, 0x30], b"", 0x82);
+        lines.push(in_four(
+            &format!("constraints of {size}"),
+            Which::Constraints,
+            &bytes,
+        ));
+    }
+    for count in [512, 513, 600] {
+        let bytes = [header(0x30, 2 * count, 3), [0x82, 0].repeat(count)].concat();
+        lines.push(for_512(&format!("{count} entries"), &bytes));
+    }
+    stored("listed", &lines);
+}
+
+const SRV_NAME: &[u8] =
+    b"\x30\x16\xA0\x14\x06\x08\x2B\x06\x01\x05\x05\x07\x08\x07\xA0\x08\x16\x06_m.a.b";
+const TWO_SETS: &[u8] = b"\x30\x18\x31\x08\x30\x06\x06\x01\x2A\x0C\x01\x62\x31\x0C\x30\x0A\x06\x03\x55\x04\x03\x13\x03*.b";
+const PERMITTED: &[u8] =
+    b"\x30\x16\xA0\x14\x30\x12\xA0\x10\x06\x08\x2B\x06\x01\x05\x05\x07\x08\x07\xA0\x04\x16\x02_n";
+
+/// Title, SAN, subject and constraints of each line of `witnessed`.
+const WITNESSED: [(&str, &[u8], &[u8], &[u8]); 10] = [
+    ("dNSName", b"\x30\x05\x82\x03a.b", &J, b""),
+    ("wildcard", b"\x30\x05\x82\x03*.b", &J, b""),
+    ("second name", b"\x30\x0A\x82\x03x.b\x82\x03A.B", &J, b""),
+    ("SRVName", SRV_NAME, &J, b""),
+    ("URI", b"\x30\x09\x86\x07m://a.b", &J, b""),
+    ("CN", b"", &J, b""),
+    ("CN of the second set", b"\x30\x03\x81\x01@", TWO_SETS, b""),
+    ("mismatch", b"\x30\x05\x82\x03x.b", &J, b""),
+    ("unreadable", b"\x30\x00", &J, b""),
+    ("constraints broken", SRV_NAME, &J, PERMITTED),
+];
+
+#[test]
+fn witnessed() {
+    let kinds = [(DNS, ""), (SRV, "m"), (URI, "m"), (CN, "")];
+    let references = kinds.map(|(kind, service)| record(kind, service.as_bytes(), b"a.b"));
+    let references = references.concat();
+    let lines: Vec<Vec<u8>> = WITNESSED
+        .iter()
+        .map(|(title, san, subject, constraints)| {
+            let outcome = judge(san, subject, constraints, &references);
+            let (v, text) = (outcome.verdict, outcome.text);
+            // the fourth reference is the CN's, whose text lies in the subject
+            let holder = if v.reference == 3 { subject } else { san };
+            let (start, length) = (text.start as usize, text.length as usize);
+            let five = [v.answer, v.reference, v.presented, v.start, v.length];
+            let five = five.map(|number| number.to_string()).join(" ");
+            let before = format!("{title}: {five}; {start} {length}; \"");
+            [before.as_bytes(), &holder[start..start + length], b"\""].concat()
+        })
+        .collect();
+    stored("witnessed", &lines);
+}
