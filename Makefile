@@ -1,10 +1,15 @@
 # make test    proves every crate, tries the must-fail edits, runs the programs and all other tests. The last line is rt ci's.
-# make demo    runs the program on a sample, and says what its numbers mean.
+# make demo    proves and builds the program and the archive, runs the program on a sample, and says what its numbers mean.
 # make check   proves what changed since the last time, and runs the programs.
+# make build   makes the archive for C, target/staticlib/libbeckethand.a, and the program, target/bin/namecheck.
 # make soak    compares with the second program on fresh cases, until stopped.
 # make bench   measures a verdict against the second program. It is a measurement and not a test.
+# make times   measures the check of each crate, from nothing, as a table: seconds, memory and must-fail edits.
 
-.PHONY: test demo check soak bench
+.PHONY: help test demo check build soak bench times
+
+help:
+	@sed -n 's/^# make/make/p' Makefile
 
 test:
 	@tests/run
@@ -15,8 +20,15 @@ demo:
 check:
 	rt check
 
+build:
+	@tests/archive
+	@program/build
+
 soak:
 	@tests/second/run soak
 
 bench:
 	@bench/run
+
+times:
+	@tests/times
