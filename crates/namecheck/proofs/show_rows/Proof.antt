@@ -16,55 +16,55 @@ Inv-loop san n c₀ i₀ c i = i ≤ n
 abbrev μ-loop : tie.MeasureT-loop
 μ-loop san n c₀ i₀ c i = n - i
 
--- src/main.rt:51:9
+-- src/lib.rt:126:9
 planned-requires : tie.Need-planned-requires Inv-loop μ-loop
 planned-requires c κs = search needs
 
--- src/main.rt:54:38
+-- src/lib.rt:129:38
 slice-aggregate-write-all : tie.Need-slice-aggregate-write-all Inv-loop μ-loop
 slice-aggregate-write-all c = search needs
 
--- src/main.rt:54:9
+-- src/lib.rt:129:9
 write-all-requires : tie.Need-write-all-requires Inv-loop μ-loop
 write-all-requires c κs = search needs
 
--- src/main.rt:55:31
+-- src/lib.rt:130:31
 slice-aggregate-show-then : tie.Need-slice-aggregate-show-then Inv-loop μ-loop
 slice-aggregate-show-then c = search needs
 
--- src/main.rt:55:9
+-- src/lib.rt:130:9
 show-then-requires : tie.Need-show-then-requires Inv-loop μ-loop
 show-then-requires c κs = search needs
 
--- src/main.rt:56:9
+-- src/lib.rt:131:9
 returns : tie.Need-returns Inv-loop μ-loop
 returns c = search needs
 
--- src/main.rt:61:5
+-- src/lib.rt:136:5
 loop-holds : tie.Need-loop-holds Inv-loop μ-loop
 loop-holds c = search needs
 
--- src/main.rt:62:13
+-- src/lib.rt:137:13
 step-at-requires : tie.Need-step-at-requires Inv-loop μ-loop
 step-at-requires c κs = search needs
 
--- src/main.rt:64:9
+-- src/lib.rt:139:9
 show-row-requires : tie.Need-show-row-requires Inv-loop μ-loop
 show-row-requires c κs = search needs
 
--- src/main.rt:66:9
+-- src/lib.rt:141:9
 add-i : tie.Need-add-i Inv-loop μ-loop
 add-i c = search needs
 
--- src/main.rt:61:5
+-- src/lib.rt:136:5
 loop-less : tie.Need-loop-less Inv-loop μ-loop
 loop-less c = search needs
 
--- src/main.rt:61:5
+-- src/lib.rt:136:5
 loop-again : tie.Need-loop-again Inv-loop μ-loop
 loop-again c = search needs
 
--- src/main.rt:50:1
+-- src/lib.rt:125:1
 returns-2 : tie.Need-returns-2 Inv-loop μ-loop
 returns-2 c = search needs
 

@@ -6,15 +6,15 @@ use Rattle.vectors.proofs.word.Reads as reads
 use Rattle.vectors.proofs.word.Lts as lts
 use Rattle.octets.proofs.find.Reads as find-reads
 
--- src/main.rt:13:9
+-- src/main.rt:16:9
 find-requires : tie.Need-find-requires
 find-requires c κs = search needs
 
--- src/main.rt:14:5
+-- src/main.rt:17:5
 slice-aggregate-result : tie.Need-slice-aggregate-result
 slice-aggregate-result c = search (needs, laws)
 
--- src/main.rt:12:1
+-- src/main.rt:15:1
 returns : tie.Need-returns
 returns c = search needs
 
