@@ -41,7 +41,7 @@ unfoldable pub subtreeRow : ℕ → ℕ → GeneralName → Row
 subtreeRow at number n =
     record { kind = nameKind n; start = at + header (writeName n); length = length (writeName n); group = number }
 
--- "tag 30 holding A0, A1, or both in that order; at least one"
+-- "tag 30 holding A0 (permitted), A1 (excluded), or both in that order; at least one"
 abbrev pub constraintsGrammar : Grammar (Member GeneralName)
 constraintsGrammar = record {
   good = λ l. all goodSide (groups l) && (some? (groups l) && chain (λ g h. ltb (g .number) (h .number)) (groups l));
