@@ -11,6 +11,7 @@ use Rattle.rules.specs.San.{GeneralName}
 use Rattle.rules.specs.Matching.{allowed, breaks}
 use Rattle.reading.specs.Reader.{raw}
 use Rattle.reading.specs.Strings.{readName}
+use Rattle.reading.specs.Answers.{some-of}
 use Rattle.der.specs.Reads.{part-is}
 use Rattle.entries.proofs.Rules.{no-name}
 use Rattle.entries.specs.Entries.{nameAt, goodNameAt}
@@ -18,7 +19,6 @@ use Rattle.entries.specs.declared.Name.{Name}
 use Rattle.entries.specs.declared.Name.the-variants.{Is, Malformed}
 use Rattle.constrained.specs.Broken.{breaksAt}
 use Rattle.constrained.proofs.Names.{Shown, shown-srv, shown-other, name-shown, name-formed}
-use Rattle.constrained.proofs.Whole.{some-of}
 
 module _ (s : List ℕ) (t start end : ℕ) (h : start ≤ end) (fits : end ≤ length s) (good : goodNameAt s t start end ≡ true)
     (r : Name) (r-is : r ≡ nameAt s t start end) where

@@ -14,7 +14,7 @@ use Rattle.der.specs.Places.{elementAt, found?}
 use Rattle.der.specs.declared.Element.{Element}
 use Rattle.der.specs.declared.Element.the-variants.{Found}
 use Rattle.entries.specs.Entries.{goodNameAt}
-use Rattle.constrained.specs.Run.{Run, itemsIn, First, first, no-element, no-items}
+use Rattle.der.specs.Runs.{Run, itemsIn, First, first, no-element, no-items}
 use Rattle.constrained.specs.Broken.{brokenAt, breaksAt}
 use Rattle.constrained.specs.declared.Broken.the-variants.{At, Nothing}
 

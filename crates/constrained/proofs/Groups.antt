@@ -1,6 +1,6 @@
 -- The two sides of the constraints, as parts of the string.
 use Prim.Native.Nat.{ℕ, _+_, _-_, _≤_, _<_}
-use mathlib.Core.Path.{_≡_, refl, sym, _∙_}
+use mathlib.Core.Path.{_≡_, refl, sym, ap, _∙_}
 use mathlib.Core.Bool.{Bool, true, false, _&&_}
 use mathlib.Core.Option.{Option, none, some}
 use mathlib.Core.List.{List, [], _∷_, _++_, append-nil}
@@ -25,8 +25,7 @@ use Rattle.der.specs.Places.{elementAt, found?}
 use Rattle.der.specs.Reads.{found-read}
 use Rattle.der.specs.declared.Element.{Element}
 use Rattle.der.specs.declared.Element.the-variants.{Found, Truncated, BadLength, BadTag}
-use Rattle.constrained.specs.Run.{validated, namesOf, Readable, itemsIn, First, first, no-element, no-items, no-run, run-is}
-use Rattle.constrained.proofs.Whole.{some-of, read-some, found-some, nothing-read, whole-read}
+use Rattle.der.specs.Runs.{Readable, itemsIn, run-is, no-items, no-run, First, no-element, first, validated, namesOf, valid-cases, contentStart, start-found, nothing-read, content-read, filled}
 use Rattle.constrained.specs.declared.Part.{Part}
 use Rattle.constrained.specs.Subtrees.{textsOf, textsIn, small, SideRun, contentAt, nowhere, partOf, Side, BothSides}
 
@@ -161,22 +160,24 @@ module _ (s : List ℕ) (e : Element) (e-is : e ≡ elementAt s 0 (length s)) wh
   pub side-run : validated readConstraints s ≡ true → (t b n : ℕ) → e ≡ Found t b n → SideRun s b (length s)
   unfolding namesOf readConstraints readSides
   side-run valid t b n found =
-      some-of (readConstraints s) (read-some readConstraints s valid (found-some s e e-is t b n found)) λ l p.
+      let r = found-read s (length s) (omega arith) 0 (omega arith) t b n (sym e-is ∙ found) in
+      valid-cases readConstraints s valid (λ q. absurd (omega (arith, r .head, r .body, r .rest, ap length q))) λ l p.
       then-some (readSides s) _ p λ gs u v.
-      let w = whole-read s e e-is t b n found _ gs u in
-      then-some (items readSide (slice b (length s) s)) _ (w .0) λ hs y z.
+      let w = content-read _ s gs u in
+      then-some (items readSide (slice (contentStart s) (length s) s)) _ (w .reads) λ hs y z.
       when-some (some? hs && chain rising hs) (some hs) z λ good j.
       let hs-is : hs ≡ gs = cc in
-      let k = run-is readSide s b (length s) hs y in
+      let k = filled readSide s hs (contentStart s) (w .within) y in
       let parts = and-parts (some? hs) (chain rising hs) good in
-      let lows = all-weaken goodFilled small low-number hs ((itemsC sideC) .sound (slice b (length s) s) y .0) in
-      record {
-        sides = record { order = w .1; fits = omega arith; readable = k .0 };
-        low = rw (k .1) lows;
-        filled = rw (k .1) (parts .0);
-        rise = rw (k .1) (parts .1);
-        list = rw (k .1, p, hs-is) (cc);
-      }
+      let lows = all-weaken goodFilled small low-number hs ((itemsC sideC) .sound (slice (contentStart s) (length s) s) y .0) in
+      rw (start-found s e e-is t b n found)
+      (record {
+        sides = k .elements;
+        low = rw (k .list) lows;
+        filled = rw (k .list) (parts .0);
+        rise = rw (k .list) (parts .1);
+        list = rw (k .list, p, hs-is) (cc);
+      })
 
 -- ---- one side or two
 

@@ -1,4 +1,3 @@
-pub mod Whole
 pub mod Step
 pub mod Names
 pub mod Parts

@@ -14,20 +14,19 @@ use Rattle.rules.specs.Names.{inSubtree}
 use Rattle.rules.specs.San.{GeneralName, plain, other, srvOid, goodName, nameKind}
 use Rattle.rules.specs.Constraints.{goodRestriction}
 use Rattle.rules.specs.Matching.{srvText}
-use Rattle.reading.specs.Reader.{also, thenF, at-end, Raw, raw, readElement}
+use Rattle.reading.specs.Reader.{isSome, also, thenF, at-end, Raw, raw, readElement}
 use Rattle.reading.specs.Strings.{nameOf, readName, readSubtree}
-use Rattle.reading.specs.Answers.{is-true, no-some, then-some, when-some, at-end-some}
+use Rattle.reading.specs.Answers.{is-true, no-some, some-of, then-some, when-some, at-end-some}
 use Rattle.der.specs.Places.{elementAt, found?}
 use Rattle.der.specs.Reads.{Read, found-read, refused-read, part-is}
 use Rattle.der.specs.declared.Element.{Element}
 use Rattle.der.specs.declared.Element.the-variants.{Found, Truncated, BadLength, BadTag}
-use Rattle.entries.specs.Entries.{isSome, textOf, placeName, nameAt, readShape, subtreeAt, goodSubtreeAt}
+use Rattle.entries.specs.Entries.{textOf, placeName, nameAt, readShape, subtreeAt, goodSubtreeAt}
 use Rattle.entries.specs.Texts.{named}
 use Rattle.entries.proofs.Rules.{no-name}
 use Rattle.entries.specs.declared.Name.{Name}
 use Rattle.entries.specs.declared.Name.the-variants.{Is, Malformed}
 use Rattle.constrained.specs.Subtrees.{textAt, srvAt, holdsAt}
-use Rattle.constrained.proofs.Whole.{some-of}
 
 -- ---- kinds
 

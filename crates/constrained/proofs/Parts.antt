@@ -9,12 +9,13 @@ use borrow.Author.Tests.{lt-ltb, le-ltb}
 use Rattle.rules.specs.Bytes.{some?}
 use Rattle.rules.specs.Names.{inSubtree}
 use Rattle.rules.specs.Matching.{withSome, if-some, liesIn}
+use Rattle.reading.specs.Reader.{isSome}
 use Rattle.reading.specs.Strings.{readSubtree}
 use Rattle.der.specs.Places.{elementAt, found?}
 use Rattle.der.specs.declared.Element.{Element}
 use Rattle.der.specs.declared.Element.the-variants.{Found}
-use Rattle.entries.specs.Entries.{isSome, goodSubtreeAt}
-use Rattle.constrained.specs.Run.{Run, First, first, no-element, no-items}
+use Rattle.entries.specs.Entries.{goodSubtreeAt}
+use Rattle.der.specs.Runs.{Run, First, first, no-element, no-items}
 use Rattle.constrained.specs.Subtrees.{textsOf, textsIn, textAt, srvAt, holdsAt, Narrowed}
 
 -- ---- one subtree and the others

@@ -12,7 +12,7 @@ use Rattle.rules.specs.San.{GeneralName}
 use Rattle.rules.specs.Constraints.{permitted, excluded}
 use Rattle.rules.specs.Matching.{srvSubtrees, liesIn, allowed}
 use Rattle.reading.specs.Strings.{readSubtree, readConstraints}
-use Rattle.constrained.specs.Run.{Run, namesOf}
+use Rattle.der.specs.Runs.{Run, namesOf}
 use Rattle.constrained.specs.Subtrees.{textsIn, Narrowed, BothSides, SrvSides, restricting}
 use Rattle.constrained.specs.declared.Sides.{Sides}
 

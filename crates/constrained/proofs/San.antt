@@ -4,27 +4,21 @@ use mathlib.Core.Path.{_≡_, refl, sym, _∙_}
 use mathlib.Core.Bool.{Bool, true, false, not}
 use mathlib.Core.Option.{Option, none, some}
 use mathlib.Core.List.{List, [], _∷_}
-use native.Mathlib.Omega.{arith}
 use lib.ListN.{length}
-use lib.Seq.{slice}
-use Rattle.rules.specs.Bytes.{some?}
 use Rattle.rules.specs.Der.{Member}
 use Rattle.rules.specs.San.{GeneralName}
 use Rattle.rules.specs.Matching.{srvText, allowed, breaks, firstBroken, if-some}
-use Rattle.reading.specs.Reader.{items}
 use Rattle.reading.specs.Strings.{readName, readSan, readConstraints}
-use Rattle.reading.specs.Answers.{then-some, when-some}
 use Rattle.der.proofs.Elements.{not-found}
 use Rattle.der.specs.Places.{elementAt, found?}
 use Rattle.der.specs.declared.Element.{Element}
 use Rattle.der.specs.declared.Element.the-variants.{Found}
-use Rattle.constrained.specs.Run.{Run, validated, namesOf, itemsIn, run-is}
+use Rattle.der.specs.Runs.{itemsIn, Run, validated, namesOf, start-found, nothing-read, Filled, san-filled}
 use Rattle.constrained.specs.Subtrees.{SrvSides, restricting}
 use Rattle.constrained.specs.Broken.{brokenAt}
 use Rattle.constrained.specs.declared.Sides.{Sides}
 use Rattle.constrained.specs.declared.Broken.{Broken}
 use Rattle.constrained.specs.declared.Broken.the-variants.{Nothing}
-use Rattle.constrained.proofs.Whole.{some-of, read-some, found-some, nothing-read, whole-read}
 use Rattle.constrained.proofs.Permission.{all-allowed}
 use Rattle.constrained.proofs.First.{index-none}
 
@@ -56,23 +50,16 @@ module _ (s : List ℕ) (e : Element) (e-is : e ≡ elementAt s 0 (length s)) wh
       rw k
 
   module _ (valid : validated readSan s ≡ true) (t b n : ℕ) (found : e ≡ Found t b n) where
-    -- the entries that a SAN holds
-    san-run : Run readName s b (length s) × (itemsIn readName s b (length s) ≡ namesOf readSan s)
-    unfolding namesOf readSan
-    san-run =
-        some-of (readSan s) (read-some readSan s valid (found-some s e e-is t b n found)) λ l p.
-        let w = whole-read s e e-is t b n found _ l p in
-        then-some (items readName (slice b (length s) s)) _ (w .0) λ m y z.
-        when-some (some? m) (some m) z λ filled j.
-        let k = run-is readName s b (length s) m y in
-        (record { order = w .1; fits = omega arith; readable = k .0 }, rw (k .1, p) (cc))
+    content : Filled readName s (namesOf readSan s) b
+    content = rw (start-found s e e-is t b n found) (san-filled s valid)
 
+    -- the entries that a SAN holds
     pub san-entries : Run readName s b (length s)
-    san-entries = san-run .0
+    san-entries = content .elements
 
     -- what is found in them is found in the SAN
     pub san-answer : (cs : List (Member GeneralName)) (r : Broken) → r ≡ brokenAt (firstBroken 0 cs (itemsIn readName s b (length s))) → r ≡ brokenAt (firstBroken 0 cs (namesOf readSan s))
-    san-answer cs r e = e ∙ rw (san-run .1)
+    san-answer cs r e = e ∙ rw (content .list)
 
 pub ruleset laws = (
   not-found,

@@ -10,7 +10,7 @@ use Rattle.der.specs.Places.{elementAt}
 use Rattle.der.specs.declared.Element.{Element}
 use Rattle.der.specs.declared.Element.the-variants.{Found}
 use Rattle.der.proofs.Elements.{not-found}
-use Rattle.constrained.specs.Run.{Run, First, first}
+use Rattle.der.specs.Runs.{Run, First, first}
 
 module _ {A : Type 0} (f : Raw → Option A) (s : List ℕ) (at end : ℕ) (run : Run f s at end) (more : at < end)
     (e : Element) (e-is : e ≡ elementAt s at end) (t b n : ℕ) (found : e ≡ Found t b n) where

@@ -1,4 +1,3 @@
 -- The SRVName subtrees of constraints and the entries of a SAN, as places in strings that have been validated.
-pub mod Run
 pub mod Subtrees
 pub mod Broken

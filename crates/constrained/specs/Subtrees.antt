@@ -12,13 +12,12 @@ use Rattle.rules.specs.Der.{Group}
 use Rattle.rules.specs.San.{GeneralName}
 use Rattle.rules.specs.Constraints.{permitted, excluded}
 use Rattle.rules.specs.Matching.{srvText, withSome, if-some, srvSubtrees}
-use Rattle.reading.specs.Reader.{then, raw}
+use Rattle.reading.specs.Reader.{then, isSome, raw}
 use Rattle.reading.specs.Strings.{flat, readSubtree, readSide, rising, readConstraints}
 use Rattle.der.specs.Places.{elementAt}
 use Rattle.der.specs.declared.Element.{Element}
 use Rattle.der.specs.declared.Element.the-variants.{Found, Truncated, BadLength, BadTag}
-use Rattle.entries.specs.Entries.{isSome}
-use Rattle.constrained.specs.Run.{Run, itemsIn, namesOf}
+use Rattle.der.specs.Runs.{Run, itemsIn, namesOf}
 use Rattle.constrained.specs.declared.Part.{Part}
 use Rattle.constrained.specs.declared.Sides.{Sides}
 

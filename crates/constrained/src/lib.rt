@@ -15,7 +15,7 @@ ghost use Rattle.rules.specs.Matching as rules;
 ghost use Rattle.rules.specs.Matching.{liesIn, firstBroken};
 ghost use Rattle.reading.specs.Strings.{readName, readSan, readSubtree, readConstraints};
 ghost use Rattle.entries.specs.Entries.{goodNameAt, goodSubtreeAt};
-ghost use Rattle.constrained.specs.Run.{validated, namesOf, Run, itemsIn};
+ghost use Rattle.der.specs.Runs.{itemsIn, Run, validated, namesOf};
 ghost use Rattle.constrained.specs.Subtrees.{textsIn, srvAt, holdsAt, Narrowed, SideRun, contentAt, BothSides, SrvSides, restricting};
 ghost use Rattle.constrained.specs.Broken.{brokenAt, breaksAt};
 

@@ -14,11 +14,11 @@ use denote.Enum.Declared
 use types.Run
 use Rattle.rules.specs.Bytes.{some?, same, ascii}
 use Rattle.rules.specs.San.{GeneralName, plain, other, srvOid, textTag, sealedTag, sealed, goodOid, goodValue, goodSrvName, goodName, nameKind}
-use Rattle.reading.specs.Reader.{then, when, Raw, raw}
+use Rattle.reading.specs.Reader.{then, when, isSome, Raw, raw}
 use Rattle.reading.specs.Strings.{readOther, nameOf, readName}
 use Rattle.reading.specs.Answers.{then-some, is-true}
 use Rattle.reading.specs.Codecs.{otherC}
-use Rattle.entries.specs.Entries.{textTagOf, textOf, otherAt, nameAt, isSome, asciiAt, goodSrvAt, goodNameAt}
+use Rattle.entries.specs.Entries.{textTagOf, textOf, otherAt, nameAt, asciiAt, goodSrvAt, goodNameAt}
 use Rattle.entries.specs.Texts.{TextAt, NamedAt, named, not-named}
 use Rattle.entries.specs.declared.Name.{Name}
 use Rattle.entries.specs.declared.Name.the-variants.{Is, Malformed}

@@ -18,7 +18,9 @@ ghost use Rattle.rules.specs.Bytes.{part};
 ghost use Rattle.rules.specs.Records.{goodRecords, referencesOf};
 ghost use Rattle.rules.specs.Matching.{textMatches, firstPair};
 ghost use Rattle.rules.specs.Verdict.{matchedOr};
-ghost use Rattle.presented.specs.Presented.{sanReadable, sanNames, subjectReadable, subjectNames, stringOf};
+ghost use Rattle.reading.specs.Strings.{readSan, readSubject};
+ghost use Rattle.der.specs.Runs.{validated, namesOf};
+ghost use Rattle.presented.specs.Presented.{stringOf};
 ghost use Rattle.pairs.specs.Pairs.{referenceAt, entryMatches, OutcomeFits};
 
 // The kind of a reference.
@@ -116,9 +118,9 @@ fn entry_matches(
 // "the pair reported is the first: lowest reference, then lowest name"
 pub fn first_pair(references: &[u8], san: &[u8], subject: &[u8]) -> Outcome
     requires { ⌜ goodRecords (now references) ≡ true ⌝ }
-    requires { ⌜ sanReadable (now san) ≡ true ⌝ }
-    requires { ⌜ subjectReadable (now subject) ≡ true ⌝ }
-    ensures { λ r. ⌜ r ≡ matchedOr (firstPair 0 (referencesOf (now (references .entry))) (sanNames (now (san .entry))) (subjectNames (now (subject .entry)))) ⌝ }
+    requires { ⌜ validated readSan (now san) ≡ true ⌝ }
+    requires { ⌜ validated readSubject (now subject) ≡ true ⌝ }
+    ensures { λ r. ⌜ r ≡ matchedOr (firstPair 0 (referencesOf (now (references .entry))) (namesOf readSan (now (san .entry))) (namesOf readSubject (now (subject .entry)))) ⌝ }
     ensures { λ r. ⌜ OutcomeFits (now (references .entry)) (now (san .entry)) (now (subject .entry)) r ⌝ }
 {
     let n = references.len() / RECORD_SIZE;

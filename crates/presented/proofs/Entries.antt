@@ -1,32 +1,30 @@
 -- What the functions on SAN entries return, by their own tests.
 use Prim.Native.Nat.{ℕ, _+_, _-_, _≤_, _<_}
-use mathlib.Core.Path.{_≡_, refl, sym, ap, _∙_}
+use mathlib.Core.Path.{_≡_, sym, ap, _∙_}
 use mathlib.Core.Bool.{true, false}
-use mathlib.Core.Option.{none, some}
+use mathlib.Core.Option.{some}
 use mathlib.Core.List.{List, [], _∷_}
 use native.Mathlib.Omega.{arith}
 use lib.ListN.{length}
-use lib.Seq.{slice}
 use lib.Dec.{T, eqb}
 use borrow.Author.Tests.{eq-eqb, ne-eqb, eqb-true}
 use Rattle.octets.proofs.Cases.{by-cases}
 use Rattle.rules.specs.Bytes.{same}
 use Rattle.rules.specs.San.{GeneralName, plain, other, srvOid, writeName, goodName, nameKind}
-use Rattle.reading.specs.Reader.{raw}
 use Rattle.reading.specs.Strings.{nameOf, readName}
 use Rattle.reading.specs.Answers.{then-some, when-some}
 use Rattle.reading.specs.Codecs.{rawName, nameC}
 use Rattle.der.specs.Places.{elementAt, found?}
 use Rattle.der.specs.Reads.{Read, found-read}
+use Rattle.der.specs.Runs.{itemsIn, Run, run-found, first-read, written}
 use Rattle.der.specs.declared.Element.{Element}
 use Rattle.der.specs.declared.Element.the-variants.{Found}
 use Rattle.entries.specs.Entries.{textTagOf, textOf, placeName, nameAt as shapeAt}
 use Rattle.entries.specs.declared.Name.{Name}
 use Rattle.entries.specs.declared.Name.the-variants.{Is, Malformed}
-use Rattle.presented.specs.Presented.{readableFrom, itemsFrom, silentAt, shownAt, kindOf, kindFor, textIn, namedOf, nameAt, entryOf, entryAt}
+use Rattle.presented.specs.Presented.{silentAt, shownAt, kindOf, kindFor, namedOf, nameAt, entryOf, entryAt}
 use Rattle.presented.specs.declared.Entry.{Entry}
 use Rattle.presented.specs.declared.Named.{Named}
-use Rattle.presented.proofs.Runs.{run-found, opened}
 
 -- ---- a header
 
@@ -58,12 +56,6 @@ kind-for (plain t c) g =
     absurd (rw (e1, e2, e3, e4, e5, e6, e7, e8) at g)
 kind-for (other o t c) g = by-cases (same o srvOid) (λ e. rw e) (λ e. rw e)
 
--- its text, as the reader of one name says it
-text-of : (n : GeneralName) → textOf n ≡ textIn n
-unfolding textOf textIn
-text-of (plain t c) = refl
-text-of (other o t c) = refl
-
 -- the bytes of a good name are taken for that name
 shape-is : (n : GeneralName) → T (goodName n) → nameOf (rawName n) ≡ some n
 unfolding readName
@@ -73,20 +65,20 @@ shape-is n g =
     let q : m ≡ n = cc in
     rw q at e
 
-module _ (s : List ℕ) (at : ℕ) (h : at < length s) (rd : readableFrom readName s at (length s) ≡ true) where
+module _ (s : List ℕ) (at : ℕ) (h : at < length s) (run : Run readName s at (length s)) where
   -- an element stands where a readable run of names goes on
   pub name-found : found? (elementAt s at (length s)) ≡ true
-  name-found = run-found nameC s at (length s) (omega arith) h rd
+  name-found = run-found readName s at (length s) run h
 
   module _ (t b n : ℕ) (k : Read s at (length s) t b n) (m : Name) (m-is : m ≡ shapeAt s t b n) where
     -- the GeneralName that is read, and its places
-    with-name : {X : Type 0} → ((nm : GeneralName) (l : List GeneralName) → itemsFrom readName s at (length s) ≡ nm ∷ l → T (goodName nm)
+    with-name : {X : Type 0} → ((nm : GeneralName) (l : List GeneralName) → itemsIn readName s at (length s) ≡ nm ∷ l → T (goodName nm)
         → m ≡ Is (nameKind nm) (textTagOf nm) (n - length (textOf nm)) → n ≡ at + length (writeName nm) → X) → X
     unfolding writeName shapeAt placeName
     with-name c =
-        opened nameC s at (length s) (omega arith) h rd t b n k λ nm l o.
-        let x : raw t (slice b n s) ≡ rawName nm = λ i. raw (o .stands .tag-is i) (o .stands .content-is i) in
-        c nm l (o .items-are) (o .good-is) (m-is ∙ rw (x, shape-is nm (o .good-is))) (o .stands .next-is)
+        let w = first-read readName s at (length s) run h t b n k in
+        let o = written nameC s at (length s) t b n (omega arith) w in
+        c (w .item) _ (w .list) (o .good-is) (m-is ∙ rw (o .raw-is, shape-is _ (o .good-is))) (o .stands .next-is)
 
     -- a good name is never malformed
     pub name-never : m ≡ Malformed → (r : Named) → r ≡ nameAt s at
@@ -99,7 +91,7 @@ module _ (s : List ℕ) (at : ℕ) (h : at < length s) (rd : readableFrom readNa
         with-name λ nm l i g q x.
         let y : kind ≡ nameKind nm = cc in
         let u : held ≡ kindOf nm = held-is ∙ ap kindFor y ∙ kind-for nm g in
-        let v : text ≡ n - length (textIn nm) = cc (text-of nm) in
+        let v : text ≡ n - length (textOf nm) = cc in
         rw (i, ← x) (λ j. record { kind = u j; text = v j; next = n })
 
 -- the kind that is held against, by the code's own tests
@@ -130,7 +122,7 @@ module _ (s : List ℕ) (at : ℕ) (m : Named) (m-is : m ≡ nameAt s at) where
   -- the text ends where the name does
   pub name-bounds : (at ≤ m .next) × (m .text ≤ m .next)
   unfolding nameAt namedOf
-  name-bounds = rw m-is (go (itemsFrom readName s at (length s)))
+  name-bounds = rw m-is (go (itemsIn readName s at (length s)))
     where
       go : (l : List GeneralName) → (at ≤ namedOf at l .next) × (namedOf at l .text ≤ namedOf at l .next)
       go [] = (omega arith, omega arith)

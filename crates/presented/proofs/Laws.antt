@@ -5,8 +5,9 @@ use mathlib.Core.Bool.{true, false}
 use Rattle.presented.specs.Presented.{silentAt, shownAt}
 use Rattle.entries.proofs.Rules.{no-name}
 use Rattle.presented.proofs.Entries.{header-never, header-is, name-found, name-never, name-is, for-dns, for-uri, for-srv, for-none, name-bounds, entry-none, entry-kind, entry-other}
-use Rattle.presented.proofs.Sets.{attribute-found, attribute-never, text-ends, attribute-cn, attribute-other, cn-first, cn-more, cn-none, set-found, set-readable, set-begin, set-next, set-less, set-within, set-again, set-step, set-sole, set-none}
-use Rattle.presented.proofs.Strings.{start-found, start-none, san-within, san-start, blocks-begin, name-next, name-less, name-within, name-again, blocks-here, blocks-next, blocks-end, first-blocked, first-cn, first-san, cn-short, cn-readable, cn-presented, san-short, san-readable, san-presented}
+use Rattle.presented.proofs.Sets.{attribute-found, attribute-never, text-ends, attribute-cn, attribute-other, cn-first, cn-more, cn-none, set-found, set-run, set-begin, set-less, set-again, set-step, set-sole, set-none}
+use Rattle.presented.proofs.Strings.{san-run, blocks-begin, name-less, name-again, blocks-here, blocks-next, blocks-end, first-blocked, first-cn, first-san, cn-short, cn-run, cn-presented, san-short, san-entries, san-presented}
+use Rattle.der.specs.Runs.{start-found, start-none}
 use Rattle.der.proofs.Elements.{not-found}
 
 pub silent-is : (next : ℕ) → record { presents = false; element = record { start = 0; length = 0 }; text = record { start = 0; length = 0 }; next = next } ≡ silentAt next
@@ -44,23 +45,18 @@ pub ruleset laws = (
   cn-more,
   cn-none,
   set-found,
-  set-readable,
+  set-run,
   set-begin,
-  set-next,
   set-less,
-  set-within,
   set-again,
   set-step,
   set-sole,
   set-none,
   start-found,
   start-none,
-  san-within,
-  san-start,
+  san-run,
   blocks-begin,
-  name-next,
   name-less,
-  name-within,
   name-again,
   blocks-here,
   blocks-next,
@@ -69,9 +65,9 @@ pub ruleset laws = (
   first-cn,
   first-san,
   cn-short,
-  cn-readable,
+  cn-run,
   cn-presented,
   san-short,
-  san-readable,
+  san-entries,
   san-presented,
 )

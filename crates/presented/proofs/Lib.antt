@@ -1,9 +1,7 @@
-pub mod Runs
 pub mod Entries
 pub mod Sets
 pub mod Strings
 pub mod Lists
 pub mod SetLists
 pub mod Whole
-pub mod Seen
 mod Laws

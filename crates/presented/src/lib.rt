@@ -16,10 +16,11 @@ ghost use mathlib.Core.Bool.{true};
 ghost use lib.ListN.{length};
 ghost use Rattle.rules.specs.Bytes.{any};
 ghost use Rattle.rules.specs.Matching.{blocksCn};
-ghost use Rattle.reading.specs.Strings.{readName, readAttribute, readSet};
+ghost use Rattle.reading.specs.Strings.{readName, readSan, readAttribute, readSet};
 ghost use Rattle.der.specs.Places.{elementAt, found?};
 ghost use Rattle.der.specs.Reads.{Read};
-ghost use Rattle.presented.specs.Presented.{readableFrom, sanReadable, subjectReadable, readableAt, stringOf, silentAt, shownAt, kindFor, nameAt, entryAt, attributeAt, withCn, setAt, presentedAt, contentStart, firstName, sanNames};
+ghost use Rattle.der.specs.Runs.{Run, validated, namesOf, contentStart};
+ghost use Rattle.presented.specs.Presented.{RunAt, stringOf, silentAt, shownAt, kindFor, nameAt, entryAt, attributeAt, withCn, setAt, presentedAt, firstName};
 
 // A SAN entry or an RDN set, as references of a kind meet it.
 pub struct Entry {
@@ -139,7 +140,7 @@ fn kind_for(kind: usize) -> u8
 // The GeneralName at a place of the SAN.
 fn name_at(san: &[u8], at: usize) -> Named
     requires { ⌜ at < length (now san) ⌝ }
-    requires { ⌜ readableFrom readName (now san) at (length (now san)) ≡ true ⌝ }
+    requires { ⌜ Run readName (now san) at (length (now san)) ⌝ }
     ensures { λ r. ⌜ r ≡ nameAt (now (san .entry)) at ⌝ }
 {
     let end = san.len();
@@ -164,7 +165,7 @@ fn name_at(san: &[u8], at: usize) -> Named
 // "A reference matches only its own kind."
 fn entry_at(san: &[u8], at: usize, kind: u8) -> Entry
     requires { ⌜ at < length (now san) ⌝ }
-    requires { ⌜ readableFrom readName (now san) at (length (now san)) ≡ true ⌝ }
+    requires { ⌜ Run readName (now san) at (length (now san)) ⌝ }
     ensures { λ r. ⌜ r ≡ entryAt kind (now (san .entry)) at ⌝ }
 {
     let n = name_at(san, at);
@@ -182,8 +183,7 @@ fn entry_at(san: &[u8], at: usize, kind: u8) -> Entry
 // The attribute at a place of a set that ends at `end`: kind 10 in the listing is a CN with tag 0C, 13 or 16, 11 another CN.
 fn attribute_at(s: &[u8], at: usize, end: usize) -> Typed
     requires { ⌜ at < end ⌝ }
-    requires { ⌜ end ≤ length (now s) ⌝ }
-    requires { ⌜ readableFrom readAttribute (now s) at end ≡ true ⌝ }
+    requires { ⌜ Run readAttribute (now s) at end ⌝ }
     ensures { λ r. ⌜ r ≡ attributeAt (now (s .entry)) at end ⌝ }
 {
     let a = header_at(s, at, end);
@@ -235,7 +235,7 @@ fn with_cn(c: Sole, a: Typed) -> Sole
 // "CN-ID: .. the value of an attribute of type CN, tag 0C, 13 or 16, in a set that has exactly one CN attribute, whatever the tags."
 fn set_at(subject: &[u8], at: usize) -> Entry
     requires { ⌜ at < length (now subject) ⌝ }
-    requires { ⌜ readableFrom readSet (now subject) at (length (now subject)) ≡ true ⌝ }
+    requires { ⌜ Run readSet (now subject) at (length (now subject)) ⌝ }
     ensures { λ r. ⌜ r ≡ setAt (now (subject .entry)) at ⌝ }
 {
     let end = subject.len();
@@ -268,7 +268,7 @@ fn set_at(subject: &[u8], at: usize) -> Entry
 // The SAN entry at a place, or for a CN reference the set of the subject there.
 pub fn presented_at(san: &[u8], subject: &[u8], kind: u8, at: usize) -> Entry
     requires { ⌜ at < length (stringOf kind (now san) (now subject)) ⌝ }
-    requires { ⌜ readableAt kind (now san) (now subject) at ≡ true ⌝ }
+    requires { ⌜ RunAt kind (now san) (now subject) at ⌝ }
     ensures { λ r. ⌜ r ≡ presentedAt kind (now (san .entry)) (now (subject .entry)) at ⌝ }
 {
     if kind == CN {
@@ -310,8 +310,8 @@ pub fn first_name(san: &[u8], subject: &[u8], kind: u8, blocked: bool) -> usize
 
 // Whether an entry of the SAN keeps CN references from counting, "readable as a name or not".
 pub fn blocks_cn(san: &[u8]) -> bool
-    requires { ⌜ sanReadable (now san) ≡ true ⌝ }
-    ensures { λ r. ⌜ r ≡ any blocksCn (sanNames (now (san .entry))) ⌝ }
+    requires { ⌜ validated readSan (now san) ≡ true ⌝ }
+    ensures { λ r. ⌜ r ≡ any blocksCn (namesOf readSan (now (san .entry))) ⌝ }
 {
     let end = san.len();
     let mut at = content_start(san);

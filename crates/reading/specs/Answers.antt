@@ -8,7 +8,7 @@ use mathlib.Core.List.{List, [], _∷_}
 use native.Mathlib.Omega.{arith}
 use lib.Dec.{T}
 use Rattle.rules.specs.Bytes.{all}
-use Rattle.reading.specs.Reader.{then, when, Refusal, Front, got, refused, shortest, enough, thenF, at-end}
+use Rattle.reading.specs.Reader.{then, when, isSome, Refusal, Front, got, refused, shortest, enough, thenF, at-end}
 
 -- ---- options and fronts
 
@@ -16,6 +16,10 @@ pub no-some : {A : Type 0} {a : A} → Path (Option A) none (some a) → ⊥
 no-some e =
     let z : _≡_ {A = ℕ} 0 1 = cc in
     omega arith
+
+pub some-of : {A X : Type 0} (o : Option A) → isSome o ≡ true → ((a : A) → o ≡ some a → X) → X
+some-of none e k = let z : _≡_ {A = ℕ} 0 1 = cc in absurd (omega arith)
+some-of (some a) e k = k a refl
 
 pub then-some : {A B X : Type 0} (o : Option A) (f : A → Option B) {b : B} → then o f ≡ some b → ((a : A) → o ≡ some a → f a ≡ some b → X) → X
 then-some none f e k = absurd (no-some e)

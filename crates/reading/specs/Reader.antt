@@ -18,6 +18,10 @@ abbrev pub when : {A : Type 0} → Bool → Option A → Option A
 when true o = o
 when false o = none
 
+abbrev pub isSome : {A : Type 0} → Option A → Bool
+isSome none = false
+isSome (some a) = true
+
 -- why no element is read: the bytes end before it does, or its length is not definite and shortest
 pub data Refusal : Type 0 where
   truncated : Refusal

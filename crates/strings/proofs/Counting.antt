@@ -15,16 +15,16 @@ use types.Run
 use Rattle.rules.specs.Bytes.{some?, chain, upTo}
 use Rattle.rules.specs.Der.{Member, Group}
 use Rattle.rules.specs.Subject.{Attribute, writeAttribute}
-use Rattle.reading.specs.Reader.{then, when, asIs, also, via, Raw, raw, writeRaw, tagged, alone, items}
+use Rattle.reading.specs.Reader.{then, when, isSome, asIs, also, via, Raw, raw, writeRaw, tagged, alone, items}
 use Rattle.reading.specs.Strings.{readName, readSan, flat, numberFrom, readAttribute, inOrder, readSet, readSets, readSubject, readSubtree}
 use Rattle.reading.specs.Runs.{items-end, items-open, items-some, items-size}
-use Rattle.reading.specs.Answers.{then-some, when-some}
+use Rattle.reading.specs.Answers.{some-of, then-some, when-some}
 use Rattle.reading.specs.Codecs.{attributeC}
 use Rattle.der.specs.Places.{elementAt, taggedAt, found?}
 use Rattle.der.specs.Reads.{Read, found-read, fits-refused, whole-element, tagged-is, tagged-read, alone-none, alone-open, alone-found}
 use Rattle.der.specs.declared.Element.{Element}
 use Rattle.der.specs.declared.Element.the-variants.{Found}
-use Rattle.entries.specs.Entries.{isSome, attributeAt, goodNameAt, goodSubtreeAt}
+use Rattle.entries.specs.Entries.{attributeAt, goodNameAt, goodSubtreeAt}
 use Rattle.entries.specs.Texts.{AttributeAt, attribute-read, not-attribute}
 use Rattle.entries.specs.declared.Name.{Name}
 use Rattle.entries.specs.declared.Name.the-variants.{Is, Malformed}
@@ -41,10 +41,6 @@ no-count Unreadable h = refl
 is-none : {A : Type 0} (o : Option A) → isSome o ≡ false → o ≡ none
 is-none none e = refl
 is-none (some a) e = let z : _≡_ {A = ℕ} 0 1 = cc in absurd (omega arith)
-
-is-some : {A X : Type 0} (o : Option A) → isSome o ≡ true → ((a : A) → o ≡ some a → X) → X
-is-some none e k = let z : _≡_ {A = ℕ} 0 1 = cc in absurd (omega arith)
-is-some (some a) e k = k a refl
 
 -- ---- places of an element that is found
 
@@ -96,7 +92,7 @@ module _ {A : Type 0} (f : Raw → Option A) (s : List ℕ) where
       ones-bad q = sym (inv ∙ run-none f (λ a. 1) anyFits nothing s end fits 0 k at t b n did (is-none (f (raw t (slice b n s))) q))
 
       ones-next : isSome (f (raw t (slice b n s))) ≡ true → all ≡ ones (k + 1) n end
-      ones-next q = is-some (f (raw t (slice b n s))) q λ a w. inv ∙ run-next f (λ a. 1) anyFits nothing s end fits 0 k at t b n did a w refl
+      ones-next q = some-of (f (raw t (slice b n s))) q λ a w. inv ∙ run-next f (λ a. 1) anyFits nothing s end fits 0 k at t b n did a w refl
 
 -- ---- GeneralNames
 

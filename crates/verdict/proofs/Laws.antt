@@ -20,18 +20,17 @@ use Rattle.rules.specs.declared.Witness.{Witness}
 use Rattle.rules.specs.declared.Breach.{Breach}
 use Rattle.rules.specs.declared.Outcome.{Outcome}
 use Rattle.rules.specs.declared.Outcome.the-variants.{Refused, Broken, Matched, Mismatched}
+use Rattle.reading.specs.Reader.{isSome}
 use Rattle.reading.specs.Strings.{readSan, readSubject, readConstraints}
 use Rattle.reading.specs.Calls.{inputs, outcomeOn, verdictOn, witnessTextOn, witnessPartOn, witnessPlaceOn}
-use Rattle.entries.specs.Entries.{isSome}
 use Rattle.strings.specs.Counts.{placeCount}
 use Rattle.strings.specs.declared.Count.{Count}
 use Rattle.strings.specs.declared.Count.the-variants.{Of, Unreadable}
-use Rattle.constrained.specs.Run as run
-use Rattle.constrained.specs.Run.{validated, namesOf}
+use Rattle.der.specs.Runs as runs
+use Rattle.der.specs.Runs.{validated, namesOf}
 use Rattle.constrained.specs.Broken.{brokenAt}
 use Rattle.constrained.specs.declared.Broken as broken
 use Rattle.constrained.specs.declared.Broken.the-variants.{At, Nothing}
-use Rattle.presented.specs.Presented as presented
 use Rattle.pairs.specs.Pairs.{Fits, OutcomeFits}
 use Rattle.verdict.specs.Judging.{anyLong, subjectRead, refusalOf, SmallWitness, Small, SmallNumbers, SmallPlace}
 use Rattle.verdict.proofs.Refusing.{whole, AllRead, sizes-fit, refused-is, all-read, judged-is}
@@ -77,10 +76,10 @@ module _ {N : Type 0} (read : List ℕ → Option (List N)) (s : List ℕ) where
       go (some l) g = let z : _≡_ {A = ℕ} 0 1 = cc in absurd (omega arith)
 
   pub valid-absent : length s ≡ 0 → true ≡ validated read s
-  valid-absent e = sym (run.absent-valid read s e)
+  valid-absent e = sym (runs.absent-valid read s e)
 
   pub valid-counted : (c : Count) → c ≡ placeCount (read s) → (k : ℕ) → c ≡ Of k → true ≡ validated read s
-  valid-counted c e k f = sym (run.read-valid read s (sym (counted c e k f)))
+  valid-counted c e k f = sym (runs.read-valid read s (sym (counted c e k f)))
 
   pub valid-not : (length s ≡ 0 → ⊥) → (c : Count) → c ≡ placeCount (read s) → c ≡ Unreadable → false ≡ validated read s
   unfolding validated
@@ -188,13 +187,9 @@ module _ (R S J C : List ℕ) (n : ℕ) (n-is : n ≡ refusalOf R S J C) where
     pub asks-records : goodRecords R ≡ true
     asks-records = read .good
 
-    pub asks-san-read : presented.sanReadable S ≡ true
-    unfolding presented.sanReadable validated
-    asks-san-read = read .san
-
-    pub asks-subject : presented.subjectReadable J ≡ true
-    unfolding presented.subjectReadable subjectRead
-    asks-subject = read .subject
+    pub asks-subject : validated readSubject J ≡ true
+    unfolding subjectRead
+    asks-subject = runs.read-valid readSubject J (read .subject)
 
     module _ (b : broken.Broken) (b-is : b ≡ brokenAt (firstBroken 0 (namesOf readConstraints C) (namesOf readSan S))) where
       judged-broken : (o : Option ℕ) (x : Outcome) (i : ℕ) → brokenAt o ≡ At i → brokenOr o x ≡ Broken (record { presented = i })
@@ -216,15 +211,15 @@ module _ (R S J C : List ℕ) (n : ℕ) (n-is : n ≡ refusalOf R S J C) where
         unfolding Small
         broken-small small = omega (arith, small i e, sizes-fit R S J C (read .short))
 
-      module _ (e : b ≡ Nothing) (o : Outcome) (o-is : o ≡ matchedOr (firstPair 0 (referencesOf R) (presented.sanNames S) (presented.subjectNames J))) where
+      module _ (e : b ≡ Nothing) (o : Outcome) (o-is : o ≡ matchedOr (firstPair 0 (referencesOf R) (namesOf readSan S) (namesOf readSubject J))) where
         pub out-pair : o ≡ whole R S J C
-        unfolding judged namesOf presented.sanNames presented.subjectNames
+        unfolding judged
         out-pair = o-is ∙ sym (judged-is R S J C n n-is zero-is ∙ judged-whole _ _ (sym b-is ∙ e))
 
         pub pair-small : OutcomeFits R S J o → Small S J o
         pair-small fits =
             rw o-is
-            (small-outcome R S J (sizes-fit R S J C (read .short)) (firstPair 0 (referencesOf R) (presented.sanNames S) (presented.subjectNames J)) (rw o-is at fits))
+            (small-outcome R S J (sizes-fit R S J C (read .short)) (firstPair 0 (referencesOf R) (namesOf readSan S) (namesOf readSubject J)) (rw o-is at fits))
 
 -- ---- numbers
 
@@ -435,4 +430,4 @@ pub ruleset laws = (
 
 pub ruleset refusals = (ref-long, ref-records, ref-san, ref-subject, ref-constraints, ref-none)
 
-pub ruleset outcomes = (out-refused, refused-small, asks-san, asks-constraints, asks-records, asks-san-read, asks-subject, out-broken, broken-small, out-pair, pair-small)
+pub ruleset outcomes = (out-refused, refused-small, asks-san, asks-constraints, asks-records, asks-subject, out-broken, broken-small, out-pair, pair-small)

@@ -19,8 +19,7 @@ use Rattle.reading.specs.Reader.{readElement}
 use Rattle.reading.specs.Strings.{readSan, readSubject, readConstraints, readSides}
 use Rattle.reading.specs.Views.{seenSan, seenSubject, seenConstraints}
 use Rattle.reading.specs.Calls.{inputs, outcomeOn}
-use Rattle.entries.specs.Entries.{isSome}
-use Rattle.constrained.specs.Run.{validated, namesOf}
+use Rattle.der.specs.Runs.{validated, namesOf}
 use Rattle.verdict.specs.Judging.{anyLong, subjectRead, refusalOf}
 use Rattle.verdict.proofs.Views.{records-long, records-bad, records-list, string-long, optional-bad, optional-list, needed-bad, needed-list}
 

@@ -11,9 +11,9 @@ use Rattle.rules.specs.Numbers.{recordsLimit}
 use Rattle.rules.specs.Records.{Reference, goodRecords, referencesOf}
 use Rattle.rules.specs.Seen.{Seen, tooLong, unreadable, listed, Input, seenRecords}
 use Rattle.rules.specs.Verdict.{isLong, isUnreadable, listOf}
+use Rattle.reading.specs.Reader.{isSome}
 use Rattle.reading.specs.Views.{absent, listedOr, seenOf}
-use Rattle.entries.specs.Entries.{isSome}
-use Rattle.constrained.specs.Run.{validated, namesOf}
+use Rattle.der.specs.Runs.{validated, namesOf}
 
 -- ---- our records
 

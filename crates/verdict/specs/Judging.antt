@@ -11,9 +11,9 @@ use Rattle.rules.specs.declared.Witness.{Witness}
 use Rattle.rules.specs.declared.Verdict.{Verdict}
 use Rattle.rules.specs.declared.Outcome.{Outcome}
 use Rattle.rules.specs.declared.Outcome.the-variants.{Refused, Broken, Matched, Mismatched}
+use Rattle.reading.specs.Reader.{isSome}
 use Rattle.reading.specs.Strings.{readSan, readSubject, readConstraints}
-use Rattle.entries.specs.Entries.{isSome}
-use Rattle.constrained.specs.Run.{validated}
+use Rattle.der.specs.Runs.{validated}
 
 -- "7 for any of the four inputs"
 unfoldable pub anyLong : List ℕ → List ℕ → List ℕ → List ℕ → Bool

@@ -29,7 +29,7 @@ ghost use mathlib.Core.Path.{_≡_};
 ghost use Rattle.rules.specs.Verdict.{numbers, numbersOf, witnessPart, witnessText, witnessPlace};
 ghost use Rattle.reading.specs.Strings.{readSan, readConstraints};
 ghost use Rattle.reading.specs.Calls.{inputs, outcomeOn, verdictOn, witnessTextOn, witnessPartOn, witnessPlaceOn};
-ghost use Rattle.constrained.specs.Run.{validated};
+ghost use Rattle.der.specs.Runs.{validated};
 ghost use Rattle.verdict.specs.Judging.{anyLong, subjectRead, refusalOf, SmallWitness, Small, SmallNumbers, SmallPlace};
 
 // "Longest inputs, in bytes: SAN 16,384; subject 4,096; constraints 16,384; references 5,120. One byte more is answer 7."

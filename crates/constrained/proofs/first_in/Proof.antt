@@ -1,7 +1,7 @@
 use Prim.Native.Nat.{_≤_, _-_}
 use native.Mathlib.Omega.{arith}
 use Rattle.reading.specs.Strings.{readName, readConstraints}
-use Rattle.constrained.specs.Run.{Run, namesOf}
+use Rattle.der.specs.Runs.{Run, namesOf}
 use Rattle.constrained.proofs.First.{BrokenLeft, index-here}
 use borrow.Author.Needs.{needs}
 use Rattle.constrained.proofs.First.{laws}

@@ -1,6 +1,6 @@
 use Prim.Native.Nat.{_-_}
 use Rattle.reading.specs.Strings.{readSubtree}
-use Rattle.constrained.specs.Run.{Run}
+use Rattle.der.specs.Runs.{Run}
 use Rattle.constrained.proofs.Parts.{SameTexts}
 use borrow.Author.Needs.{needs}
 use Rattle.constrained.proofs.Parts.{laws}
