@@ -3,12 +3,13 @@
 ghost use Prim.Native.Nat.{_≤_};
 ghost use mathlib.Core.Path.{_≡_};
 ghost use lib.ListN.{length};
+ghost use Rattle.rules.specs.Numbers.{sanLimit};
 ghost use Rattle.rules.specs.Records.{shown};
 ghost use Rattle.reading.specs.Calls.{inputs, verdictOn, witnessPartOn, listingOn, tableOn};
 
 // A number that fits.
 fn narrow(n: usize) -> u32
-    requires { ⌜ n ≤ 16384 ⌝ }
+    requires { ⌜ n ≤ sanLimit ⌝ }
     ensures { λ r. ⌜ r ≡ n ⌝ }
 {
     n as u32

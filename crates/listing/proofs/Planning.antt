@@ -8,6 +8,7 @@ use native.Mathlib.Omega.{arith}
 use lib.Dec.{ltb, eqb}
 use lib.ListN.{length}
 use borrow.Author.Tests.{lt-ltb, le-ltb, eq-eqb, ne-eqb}
+use Rattle.rules.specs.Numbers.{sanLimit, subjectLimit, constraintsLimit}
 use Rattle.rules.specs.Seen.{Seen, tooLong, unreadable, listed, Input, sanInput, subjectInput, constraintsInput}
 use Rattle.rules.specs.Listing.{rowsSeen}
 use Rattle.rules.specs.declared.Row.{Row}
@@ -28,15 +29,15 @@ use Rattle.listing.specs.Plans.{limitOf, namesOf, countOf, plan, refused
 -- ---- by the number of the string
 
 module _ (which : ℕ) where
-  pub limit-san : which ≡ 0 → 16384 ≡ limitOf which
+  pub limit-san : which ≡ 0 → sanLimit ≡ limitOf which
   unfolding limitOf
   limit-san e = rw (eq-eqb which 0 e)
 
-  pub limit-subject : which ≡ 1 → 4096 ≡ limitOf which
+  pub limit-subject : which ≡ 1 → subjectLimit ≡ limitOf which
   unfolding limitOf
   limit-subject e = rw e
 
-  pub limit-constraints : (which ≡ 0 → ⊥) → (which ≡ 1 → ⊥) → 16384 ≡ limitOf which
+  pub limit-constraints : (which ≡ 0 → ⊥) → (which ≡ 1 → ⊥) → constraintsLimit ≡ limitOf which
   unfolding limitOf
   limit-constraints e f = rw (ne-eqb which 0 e, ne-eqb which 1 f)
 

@@ -11,6 +11,7 @@ use lib.Dec.{T, eqb, leb, leb→le}
 use borrow.Author.Tests.{ne-eqb}
 use Rattle.octets.proofs.Cases.{by-cases}
 use Rattle.rules.specs.Bytes.{part, some?, all}
+use Rattle.rules.specs.Numbers.{recordSize, serviceLengthAt, domainLengthAt, serviceAt, serviceSize, domainAt, domainSize}
 use Rattle.rules.specs.Names.{dnsMatches, srvMatches, uriMatches}
 use Rattle.rules.specs.Records.{referenceOf, filled, goodService, goodReference, goodRecord, recordsOf, goodRecords}
 use Rattle.rules.specs.Matching.{textMatches}
@@ -19,44 +20,44 @@ use Rattle.reading.specs.Answers.{and-parts}
 use Rattle.der.specs.Reads.{take-of-drop}
 use Rattle.pairs.specs.Pairs.{referenceAt}
 
-module _ (b : List ℕ) (i : ℕ) (h : i < length b / 320) where
+module _ (b : List ℕ) (i : ℕ) (h : i < length b / recordSize) where
   abbrev rec : List ℕ
-  rec = part b (i * 320) 320
+  rec = part b (i * recordSize) recordSize
 
-  room : i * 320 + 320 ≤ length b
+  room : i * recordSize + recordSize ≤ length b
   room = omega arith
 
   -- byte 0 of the record is one of the records' bytes
-  pub kind-room : i * 320 < length b
+  pub kind-room : i * recordSize < length b
   kind-room = omega (arith, room)
 
   -- and it is the kind
-  pub kind-is : getD b (i * 320) 0 ≡ referenceAt b i .kind
+  pub kind-is : getD b (i * recordSize) 0 ≡ referenceAt b i .kind
   unfolding referenceAt referenceOf
-  kind-is = sym (byte-at b (i * 320) 0 (omega arith) ∙ rw (add-zero (i * 320)))
+  kind-is = sym (byte-at b (i * recordSize) 0 (omega arith) ∙ rw (add-zero (i * recordSize)))
 
   -- a part of the record is a part of the records
-  within : (p n : ℕ) → p + n ≤ 320 → part rec p n ≡ part b (i * 320 + p) n
+  within : (p n : ℕ) → p + n ≤ recordSize → part rec p n ≡ part b (i * recordSize + p) n
   unfolding part
   within p n k =
-      take-of-drop n p (take 320 (drop (i * 320) b))
-      ∙ ap (drop p) (take-take (p + n) 320 (drop (i * 320) b) k)
-      ∙ sym (take-of-drop n p (drop (i * 320) b))
-      ∙ ap (take n) (drop-drop p (i * 320) b)
+      take-of-drop n p (take recordSize (drop (i * recordSize) b))
+      ∙ ap (drop p) (take-take (p + n) recordSize (drop (i * recordSize) b) k)
+      ∙ sym (take-of-drop n p (drop (i * recordSize) b))
+      ∙ ap (take n) (drop-drop p (i * recordSize) b)
 
   module _ (g : goodRecords b ≡ true) where
     record-good : T (goodRecord rec)
     unfolding goodRecords
     record-good =
         let k : T (goodRecords b) = rw g tt in
-        let p = and-parts (some? b && eqb (length b % 320) 0) (all goodRecord (recordsOf b)) k in
+        let p = and-parts (some? b && eqb (length b % recordSize) 0) (all goodRecord (recordsOf b)) k in
         rw (record-at b i h) at (each-good (recordsOf b) i (p .1) (omega (arith, count-is b)))
 
-    parts : T (filled (part rec 4 63) (getD rec 2 0)) × (T (filled (part rec 67 253) (getD rec 3 0)) × T (goodReference (referenceOf rec)))
+    parts : T (filled (part rec serviceAt serviceSize) (getD rec serviceLengthAt 0)) × (T (filled (part rec domainAt domainSize) (getD rec domainLengthAt 0)) × T (goodReference (referenceOf rec)))
     unfolding goodRecord
     parts =
-        let p = and-parts (eqb (getD rec 1 0) 0 && filled (part rec 4 63) (getD rec 2 0) && filled (part rec 67 253) (getD rec 3 0)) _ record-good in
-        let q = and-parts (eqb (getD rec 1 0) 0 && filled (part rec 4 63) (getD rec 2 0)) _ (p .0) in
+        let p = and-parts (eqb (getD rec 1 0) 0 && filled (part rec serviceAt serviceSize) (getD rec serviceLengthAt 0) && filled (part rec domainAt domainSize) (getD rec domainLengthAt 0)) _ record-good in
+        let q = and-parts (eqb (getD rec 1 0) 0 && filled (part rec serviceAt serviceSize) (getD rec serviceLengthAt 0)) _ (p .0) in
         let r = and-parts (eqb (getD rec 1 0) 0) _ (q .0) in
         (r .1, (q .1, p .1))
 
@@ -66,35 +67,35 @@ module _ (b : List ℕ) (i : ℕ) (h : i < length b / 320) where
         let w = leb→le n (length (take k (drop at rec))) (and-parts (leb n (length (take k (drop at rec)))) _ t .0) in
         omega (arith, length-take k (drop at rec))
 
-    module _ (n : ℕ) (n-is : n ≡ getD b (i * 320 + 2) 0) where
-      service-long : n ≡ getD rec 2 0
-      service-long = n-is ∙ sym (byte-at b (i * 320) 2 (omega arith))
+    module _ (n : ℕ) (n-is : n ≡ getD b (i * recordSize + serviceLengthAt) 0) where
+      service-long : n ≡ getD rec serviceLengthAt 0
+      service-long = n-is ∙ sym (byte-at b (i * recordSize) serviceLengthAt (omega arith))
 
       -- the service ends within the records
-      pub service-end : i * 320 + 4 + n ≤ length b
-      service-end = omega (arith, room, service-long, fits 4 63 (getD rec 2 0) (parts .0))
+      pub service-end : i * recordSize + serviceAt + n ≤ length b
+      service-end = omega (arith, room, service-long, fits serviceAt serviceSize (getD rec serviceLengthAt 0) (parts .0))
 
       -- the service is the part that the code takes
-      pub service-is : take (i * 320 + 4 + n - (i * 320 + 4)) (drop (i * 320 + 4) b) ≡ referenceAt b i .service
+      pub service-is : take (i * recordSize + serviceAt + n - (i * recordSize + serviceAt)) (drop (i * recordSize + serviceAt) b) ≡ referenceAt b i .service
       unfolding referenceAt referenceOf part
       service-is =
-          let m : i * 320 + 4 + n - (i * 320 + 4) ≡ n = omega arith in
-          rw (m, ← service-long) (sym (within 4 n (omega (arith, service-long, fits 4 63 (getD rec 2 0) (parts .0)))))
+          let m : i * recordSize + serviceAt + n - (i * recordSize + serviceAt) ≡ n = omega arith in
+          rw (m, ← service-long) (sym (within serviceAt n (omega (arith, service-long, fits serviceAt serviceSize (getD rec serviceLengthAt 0) (parts .0)))))
 
-    module _ (n : ℕ) (n-is : n ≡ getD b (i * 320 + 3) 0) where
-      domain-long : n ≡ getD rec 3 0
-      domain-long = n-is ∙ sym (byte-at b (i * 320) 3 (omega arith))
+    module _ (n : ℕ) (n-is : n ≡ getD b (i * recordSize + domainLengthAt) 0) where
+      domain-long : n ≡ getD rec domainLengthAt 0
+      domain-long = n-is ∙ sym (byte-at b (i * recordSize) domainLengthAt (omega arith))
 
       -- the domain ends within the records
-      pub domain-end : i * 320 + 67 + n ≤ length b
-      domain-end = omega (arith, room, domain-long, fits 67 253 (getD rec 3 0) (parts .1 .0))
+      pub domain-end : i * recordSize + domainAt + n ≤ length b
+      domain-end = omega (arith, room, domain-long, fits domainAt domainSize (getD rec domainLengthAt 0) (parts .1 .0))
 
       -- the domain is the part that the code takes
-      pub domain-is : take (i * 320 + 67 + n - (i * 320 + 67)) (drop (i * 320 + 67) b) ≡ referenceAt b i .domain
+      pub domain-is : take (i * recordSize + domainAt + n - (i * recordSize + domainAt)) (drop (i * recordSize + domainAt) b) ≡ referenceAt b i .domain
       unfolding referenceAt referenceOf part
       domain-is =
-          let m : i * 320 + 67 + n - (i * 320 + 67) ≡ n = omega arith in
-          rw (m, ← domain-long) (sym (within 67 n (omega (arith, domain-long, fits 67 253 (getD rec 3 0) (parts .1 .0)))))
+          let m : i * recordSize + domainAt + n - (i * recordSize + domainAt) ≡ n = omega arith in
+          rw (m, ← domain-long) (sym (within domainAt n (omega (arith, domain-long, fits domainAt domainSize (getD rec domainLengthAt 0) (parts .1 .0)))))
 
     -- no other kind is good
     dns-or-cn : (referenceAt b i .kind ≡ 2 → ⊥) → (referenceAt b i .kind ≡ 3 → ⊥) → eqb (referenceAt b i .kind) 1 || eqb (referenceAt b i .kind) 4 ≡ true

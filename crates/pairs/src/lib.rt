@@ -5,8 +5,12 @@ use presented::blocks_cn;
 use presented::first_name;
 use presented::presented_at;
 use rules::CN;
+use rules::DOMAIN_AT;
+use rules::DOMAIN_LENGTH_AT;
 use rules::Outcome;
 use rules::RECORD_SIZE;
+use rules::SERVICE_AT;
+use rules::SERVICE_LENGTH_AT;
 use rules::SRV;
 use rules::URI;
 use rules::Witness;
@@ -15,6 +19,7 @@ ghost use mathlib.Core.Path.{_≡_};
 ghost use mathlib.Core.Bool.{true};
 ghost use lib.ListN.{length};
 ghost use Rattle.rules.specs.Bytes.{part};
+ghost use Rattle.rules.specs.Numbers.{recordSize};
 ghost use Rattle.rules.specs.Records.{goodRecords, referencesOf};
 ghost use Rattle.rules.specs.Matching.{textMatches, firstPair};
 ghost use Rattle.rules.specs.Verdict.{matchedOr};
@@ -25,7 +30,7 @@ ghost use Rattle.pairs.specs.Pairs.{referenceAt, entryMatches, OutcomeFi
 
 // The kind of a reference.
 fn kind_of(references: &[u8], i: usize) -> u8
-    requires { ⌜ i < length (now references) / 320 ⌝ }
+    requires { ⌜ i < length (now references) / recordSize ⌝ }
     ensures { λ r. ⌜ r ≡ referenceAt (now (references .entry)) i .kind ⌝ }
 {
     references[i * RECORD_SIZE]
@@ -34,12 +39,12 @@ fn kind_of(references: &[u8], i: usize) -> u8
 // "Byte 2 service length .. Bytes 4 to 66 service"
 fn service_of(references: &[u8], i: usize) -> &[u8]
     requires { ⌜ goodRecords (now references) ≡ true ⌝ }
-    requires { ⌜ i < length (now references) / 320 ⌝ }
+    requires { ⌜ i < length (now references) / recordSize ⌝ }
     ensures { λ r. ⌜ now r ≡ referenceAt (now (references .entry)) i .service ⌝ }
 {
     let at = i * RECORD_SIZE;
-    let from = at + 4;
-    let n = wide(references[at + 2]);
+    let from = at + SERVICE_AT;
+    let n = wide(references[at + SERVICE_LENGTH_AT]);
     let to = from + n;
     &references[from..to]
 }
@@ -47,12 +52,12 @@ fn service_of(references: &[u8], i: usize) -> &[u8]
 // "byte 3 domain length .. 67 to 319 domain"
 fn domain_of(references: &[u8], i: usize) -> &[u8]
     requires { ⌜ goodRecords (now references) ≡ true ⌝ }
-    requires { ⌜ i < length (now references) / 320 ⌝ }
+    requires { ⌜ i < length (now references) / recordSize ⌝ }
     ensures { λ r. ⌜ now r ≡ referenceAt (now (references .entry)) i .domain ⌝ }
 {
     let at = i * RECORD_SIZE;
-    let from = at + 67;
-    let n = wide(references[at + 3]);
+    let from = at + DOMAIN_AT;
+    let n = wide(references[at + DOMAIN_LENGTH_AT]);
     let to = from + n;
     &references[from..to]
 }
@@ -61,7 +66,7 @@ fn domain_of(references: &[u8], i: usize) -> &[u8]
 // neither SRV nor URI is DNS or CN.
 pub fn record_matches(references: &[u8], i: usize, s: &[u8], start: usize, len: usize) -> bool
     requires { ⌜ goodRecords (now references) ≡ true ⌝ }
-    requires { ⌜ i < length (now references) / 320 ⌝ }
+    requires { ⌜ i < length (now references) / recordSize ⌝ }
     requires { ⌜ start + len ≤ length (now s) ⌝ }
     ensures { λ r. ⌜ r ≡ textMatches (referenceAt (now (references .entry)) i) (part (now (s .entry)) start len) ⌝ }
 {
@@ -100,7 +105,7 @@ fn entry_matches(
     e: Entry,
 ) -> bool
     requires { ⌜ goodRecords (now references) ≡ true ⌝ }
-    requires { ⌜ i < length (now references) / 320 ⌝ }
+    requires { ⌜ i < length (now references) / recordSize ⌝ }
     requires { ⌜ e .text .start + e .text .length ≤ length (stringOf kind (now san) (now subject)) ⌝ }
     ensures { λ r. ⌜ r ≡ entryMatches (referenceAt (now (references .entry)) i) (stringOf kind (now (san .entry)) (now (subject .entry))) e ⌝ }
 {

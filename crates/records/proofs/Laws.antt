@@ -12,6 +12,7 @@ use lib.Dec.{T, eqb, leb, ltb}
 use borrow.Author.Tests.{leb-true, eq-eqb, ne-eqb, le-leb, lt-leb, lt-ltb, le-ltb, not-true, not-false}
 use Rattle.octets.proofs.Parts.{rest-is}
 use Rattle.rules.specs.Bytes.{part, some?, all}
+use Rattle.rules.specs.Numbers.{recordSize, serviceLengthAt, domainLengthAt, serviceAt, serviceSize, domainAt, domainSize, recordsLimit}
 use Rattle.rules.specs.Names.{service, scheme, domain}
 use Rattle.rules.specs.Records.{referenceOf, filled, goodService, goodReference, goodRecord, split, recordsOf, goodRecords, noRecord, shown}
 use Rattle.rules.specs.declared.Shown.{Shown}
@@ -54,10 +55,10 @@ module _ (s : List ℕ) (i sum : ℕ) (inv : Summed s i sum) where
       go false = refl
 
 -- no part is longer than its whole
-pub rest-short : (s : List ℕ) (n : ℕ) → length s ≤ 320 → length (take (length s - n) (drop n s)) ≤ 320
+pub rest-short : (s : List ℕ) (n : ℕ) → length s ≤ recordSize → length (take (length s - n) (drop n s)) ≤ recordSize
 rest-short s n h = simp (length-take, length-drop) (omega arith)
 
-pub field-short : (s : List ℕ) (a n : ℕ) → n ≤ 320 → length (take n (drop a s)) ≤ 320
+pub field-short : (s : List ℕ) (a n : ℕ) → n ≤ recordSize → length (take n (drop a s)) ≤ recordSize
 field-short s a n h = simp (length-take) (omega arith)
 
 -- ---- filled
@@ -81,9 +82,9 @@ filled-fits field n {most} e h = go (leb n (length field)) refl
     go false f = let z : false ≡ true = rw f at e in absurd (false≢true z)
 
 -- so the domain of a record ends within it
-pub domain-ends : (b : List ℕ) (m : ℕ) (g : Bool) → g ≡ filled (take 253 (drop 67 b)) m → not g ≡ false → length b ≡ 320 → 67 + m ≤ length b
+pub domain-ends : (b : List ℕ) (m : ℕ) (g : Bool) → g ≡ filled (take domainSize (drop domainAt b)) m → not g ≡ false → length b ≡ recordSize → domainAt + m ≤ length b
 domain-ends b m g e f h =
-    omega (arith, filled-fits (take 253 (drop 67 b)) m {most = 253} (sym e ∙ not-false g f) (simp (length-take, length-drop) (omega arith)))
+    omega (arith, filled-fits (take domainSize (drop domainAt b)) m {most = domainSize} (sym e ∙ not-false g f) (simp (length-take, length-drop) (omega arith)))
 
 -- ---- good_service
 
@@ -115,18 +116,18 @@ module _ (b : List ℕ) where
   unfolding goodRecord
   record-byte1 h = simp (ne-eqb (getD b 1 0) 0 h)
 
-  module _ (zero1 : getD b 1 0 ≡ 0) (n : ℕ) (n-is : n ≡ getD b 2 0) (f : Bool) (f-is : f ≡ filled (take 63 (drop 4 b)) n) where
+  module _ (zero1 : getD b 1 0 ≡ 0) (n : ℕ) (n-is : n ≡ getD b serviceLengthAt 0) (f : Bool) (f-is : f ≡ filled (take serviceSize (drop serviceAt b)) n) where
     pub record-service-fill : not f ≡ true → false ≡ goodRecord b
     unfolding goodRecord part
     record-service-fill e = simp (eq-eqb (getD b 1 0) 0 zero1, ← n-is, ← f-is, not-true f e)
 
-    module _ (m : ℕ) (m-is : m ≡ getD b 3 0) (g : Bool) (g-is : g ≡ filled (take 253 (drop 67 b)) m) where
+    module _ (m : ℕ) (m-is : m ≡ getD b domainLengthAt 0) (g : Bool) (g-is : g ≡ filled (take domainSize (drop domainAt b)) m) where
       pub record-domain-fill : not f ≡ false → not g ≡ true → false ≡ goodRecord b
       unfolding goodRecord part
       record-domain-fill d e = simp (eq-eqb (getD b 1 0) 0 zero1, ← n-is, ← m-is, ← f-is, not-false f d, ← g-is, not-true g e)
 
-      module _ (d : not f ≡ false) (e : not g ≡ false) (t : Bool) (t-is : t ≡ goodService (getD b 0 0) (take (4 + n - 4) (drop 4 b))) where
-        service-is : goodService (getD b 0 0) (take n (drop 4 b)) ≡ t
+      module _ (d : not f ≡ false) (e : not g ≡ false) (t : Bool) (t-is : t ≡ goodService (getD b 0 0) (take (serviceAt + n - serviceAt) (drop serviceAt b))) where
+        service-is : goodService (getD b 0 0) (take n (drop serviceAt b)) ≡ t
         service-is = sym (rw (add-sub-cancel-left) at t-is)
 
         pub record-service : not t ≡ true → false ≡ goodRecord b
@@ -134,7 +135,7 @@ module _ (b : List ℕ) where
         record-service h =
             simp (eq-eqb (getD b 1 0) 0 zero1, ← n-is, ← m-is, ← f-is, not-false f d, ← g-is, not-false g e, service-is, not-true t h)
 
-        pub record-domain : not t ≡ false → (r : Bool) → r ≡ domain (take (67 + m - 67) (drop 67 b)) → r ≡ goodRecord b
+        pub record-domain : not t ≡ false → (r : Bool) → r ≡ domain (take (domainAt + m - domainAt) (drop domainAt b)) → r ≡ goodRecord b
         unfolding goodRecord part goodReference referenceOf
         record-domain h r r-is =
             r-is ∙ rw add-sub-cancel-left
@@ -154,48 +155,48 @@ pub records-none : (b : List ℕ) → length b ≡ 0 → false ≡ goodRecords b
 unfolding goodRecords
 records-none b h = rw (none-is b h)
 
-pub records-uneven : (b : List ℕ) → (length b ≡ 0 → ⊥) → (length b % 320 ≡ 0 → ⊥) → false ≡ goodRecords b
+pub records-uneven : (b : List ℕ) → (length b ≡ 0 → ⊥) → (length b % recordSize ≡ 0 → ⊥) → false ≡ goodRecords b
 unfolding goodRecords
-records-uneven b h k = simp (some-is b h, ne-eqb (length b % 320) 0 k)
+records-uneven b h k = simp (some-is b h, ne-eqb (length b % recordSize) 0 k)
 
 -- the records from `at` on are good just where all are; there are k of them
 unfoldable pub Left : List ℕ → ℕ → Type 0
-Left b at = (k : ℕ) × ((length b ≡ at + k * 320) × (all goodRecord (split k (drop at b)) ≡ goodRecords b))
+Left b at = (k : ℕ) × ((length b ≡ at + k * recordSize) × (all goodRecord (split k (drop at b)) ≡ goodRecords b))
 
 module _ (b : List ℕ) where
-  pub left-begin : (length b ≡ 0 → ⊥) → length b % 320 ≡ 0 → Left b 0
+  pub left-begin : (length b ≡ 0 → ⊥) → length b % recordSize ≡ 0 → Left b 0
   unfolding Left goodRecords recordsOf
-  left-begin h k = (length b / 320, (omega arith, simp (some-is b h, eq-eqb (length b % 320) 0 k)))
+  left-begin h k = (length b / recordSize, (omega arith, simp (some-is b h, eq-eqb (length b % recordSize) 0 k)))
 
   module _ (at : ℕ) (inv : Left b at) where
     -- there is room for a whole record
-    pub left-room : at < length b → at + 320 ≤ length b
+    pub left-room : at < length b → at + recordSize ≤ length b
     unfolding Left
     left-room h = go (inv .0) (inv .1 .0)
       where
-        go : (k : ℕ) → length b ≡ at + k * 320 → at + 320 ≤ length b
+        go : (k : ℕ) → length b ≡ at + k * recordSize → at + recordSize ≤ length b
         go zero e = absurd (omega arith)
         go (suc k) e = omega arith
 
     abbrev Step : Type 0
-    Step = (k : ℕ) × ((length b ≡ at + 320 + k * 320) × ((goodRecord (take 320 (drop at b)) && all goodRecord (split k (drop (at + 320) b))) ≡ goodRecords b))
+    Step = (k : ℕ) × ((length b ≡ at + recordSize + k * recordSize) × ((goodRecord (take recordSize (drop at b)) && all goodRecord (split k (drop (at + recordSize) b))) ≡ goodRecords b))
 
     step : at < length b → Step
     unfolding Left split
     step h = go (inv .0) (inv .1 .0) (inv .1 .1)
       where
-        go : (k : ℕ) → length b ≡ at + k * 320 → all goodRecord (split k (drop at b)) ≡ goodRecords b → Step
+        go : (k : ℕ) → length b ≡ at + k * recordSize → all goodRecord (split k (drop at b)) ≡ goodRecords b → Step
         go zero e f = absurd (omega arith)
-        go (suc k) e f = (k, (omega arith, rw (drop-drop 320 at b) at f))
+        go (suc k) e f = (k, (omega arith, rw (drop-drop recordSize at b) at f))
 
-    module _ (t : Bool) (t-is : t ≡ goodRecord (take (at + 320 - at) (drop at b))) where
-      good-is : goodRecord (take 320 (drop at b)) ≡ t
+    module _ (t : Bool) (t-is : t ≡ goodRecord (take (at + recordSize - at) (drop at b))) where
+      good-is : goodRecord (take recordSize (drop at b)) ≡ t
       good-is = sym (rw add-sub-cancel-left at t-is)
 
       pub left-bad : at < length b → not t ≡ true → false ≡ goodRecords b
       left-bad h e = rw (good-is, not-true t e) at (step h .1 .1)
 
-      pub left-next : at < length b → not t ≡ false → Left b (at + 320)
+      pub left-next : at < length b → not t ≡ false → Left b (at + recordSize)
       unfolding Left
       left-next h e = (step h .0, (step h .1 .0, rw (good-is, not-false t e) at (step h .1 .1)))
 
@@ -203,37 +204,37 @@ module _ (b : List ℕ) where
     unfolding Left split
     left-end h = go (inv .0) (inv .1 .0) (inv .1 .1)
       where
-        go : (k : ℕ) → length b ≡ at + k * 320 → all goodRecord (split k (drop at b)) ≡ goodRecords b → true ≡ goodRecords b
+        go : (k : ℕ) → length b ≡ at + k * recordSize → all goodRecord (split k (drop at b)) ≡ goodRecords b → true ≡ goodRecords b
         go zero e f = f
         go (suc k) e f = absurd (omega arith)
 
 -- ---- show
 
 module _ (b : List ℕ) (i : ℕ) where
-  pub show-long : (r : Shown) → r ≡ noRecord 7 → 5120 < length b → r ≡ shown b i
+  pub show-long : (r : Shown) → r ≡ noRecord 7 → recordsLimit < length b → r ≡ shown b i
   unfolding shown
-  show-long r e h = e ∙ simp (lt-ltb 5120 (length b) h)
+  show-long r e h = e ∙ simp (lt-ltb recordsLimit (length b) h)
 
-  module _ (fits : length b ≤ 5120) (g : Bool) (g-is : g ≡ goodRecords b) where
+  module _ (fits : length b ≤ recordsLimit) (g : Bool) (g-is : g ≡ goodRecords b) where
     pub show-bad : (r : Shown) → r ≡ noRecord 6 → not g ≡ true → r ≡ shown b i
     unfolding shown
-    show-bad r e h = e ∙ simp (le-ltb 5120 (length b) fits, ← g-is, not-true g h)
+    show-bad r e h = e ∙ simp (le-ltb recordsLimit (length b) fits, ← g-is, not-true g h)
 
     module _ (good : not g ≡ false) where
-      pub show-past : (r : Shown) → r ≡ noRecord 0 → length b / 320 ≤ i → r ≡ shown b i
+      pub show-past : (r : Shown) → r ≡ noRecord 0 → length b / recordSize ≤ i → r ≡ shown b i
       unfolding shown
       show-past r e h =
-          e ∙ simp (le-ltb 5120 (length b) fits, ← g-is, not-false g good) (shown-past (recordsOf b) i (rw (count-is b) h))
+          e ∙ simp (le-ltb recordsLimit (length b) fits, ← g-is, not-false g good) (shown-past (recordsOf b) i (rw (count-is b) h))
 
-      pub show-at : (kind service domain : ℕ) → kind ≡ getD b (i * 320) 0 → service ≡ getD b (i * 320 + 2) 0 → domain ≡ getD b (i * 320 + 3) 0
-          → i < length b / 320 → record { answer = 0; kind = kind; service = service; domain = domain } ≡ shown b i
+      pub show-at : (kind service domain : ℕ) → kind ≡ getD b (i * recordSize) 0 → service ≡ getD b (i * recordSize + serviceLengthAt) 0 → domain ≡ getD b (i * recordSize + domainLengthAt) 0
+          → i < length b / recordSize → record { answer = 0; kind = kind; service = service; domain = domain } ≡ shown b i
       unfolding shown
       show-at kind service domain k-is s-is d-is h =
           let e = record-at b i h in
-          let k : kind ≡ getD (getD (recordsOf b) i []) 0 0 = k-is ∙ rw e (sym (byte-at b (i * 320) 0 (omega arith) ∙ rw add-zero)) in
-          let s : service ≡ getD (getD (recordsOf b) i []) 2 0 = s-is ∙ rw e (sym (byte-at b (i * 320) 2 (omega arith))) in
-          let d : domain ≡ getD (getD (recordsOf b) i []) 3 0 = d-is ∙ rw e (sym (byte-at b (i * 320) 3 (omega arith))) in
-          simp (le-ltb 5120 (length b) fits, ← g-is, not-false g good)
+          let k : kind ≡ getD (getD (recordsOf b) i []) 0 0 = k-is ∙ rw e (sym (byte-at b (i * recordSize) 0 (omega arith) ∙ rw add-zero)) in
+          let s : service ≡ getD (getD (recordsOf b) i []) serviceLengthAt 0 = s-is ∙ rw e (sym (byte-at b (i * recordSize) serviceLengthAt (omega arith))) in
+          let d : domain ≡ getD (getD (recordsOf b) i []) domainLengthAt 0 = d-is ∙ rw e (sym (byte-at b (i * recordSize) domainLengthAt (omega arith))) in
+          simp (le-ltb recordsLimit (length b) fits, ← g-is, not-false g good)
           ((λ j. record { answer = 0; kind = k j; service = s j; domain = d j }) ∙ shown-at (recordsOf b) i (rw (count-is b) h))
 
 pub small-none : (r : Shown) (n : ℕ) → r ≡ noRecord n → n ≤ 255 → SmallShown r
@@ -241,10 +242,10 @@ small-none r n e h = rw e (record { answer-small = h; kind-small = omega arith; 
 
 -- ---- lengths of parts, for what is asked at a call
 
-pub whole-record : (b : List ℕ) (at : ℕ) → at + 320 ≤ length b → length (take (at + 320 - at) (drop at b)) ≡ 320
+pub whole-record : (b : List ℕ) (at : ℕ) → at + recordSize ≤ length b → length (take (at + recordSize - at) (drop at b)) ≡ recordSize
 whole-record b at h = rw add-sub-cancel-left (simp (length-take, length-drop) (omega arith))
 
-pub inside : (b : List ℕ) (i k : ℕ) → i < length b / 320 → k < 320 → i * 320 + k < length b
+pub inside : (b : List ℕ) (i k : ℕ) → i < length b / recordSize → k < recordSize → i * recordSize + k < length b
 inside b i k h l = omega arith
 
 pub ruleset laws = (

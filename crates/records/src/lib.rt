@@ -3,10 +3,16 @@ use octets::wide;
 use rules::ACCEPTED;
 use rules::CN;
 use rules::DNS;
+use rules::DOMAIN_AT;
+use rules::DOMAIN_LENGTH_AT;
+use rules::DOMAIN_SIZE;
 use rules::INPUT_TOO_LONG;
 use rules::RECORD_SIZE;
 use rules::RECORDS_LIMIT;
 use rules::RECORDS_UNREADABLE;
+use rules::SERVICE_AT;
+use rules::SERVICE_LENGTH_AT;
+use rules::SERVICE_SIZE;
 use rules::SRV;
 use rules::Shown;
 use rules::URI;
@@ -15,12 +21,13 @@ ghost use Prim.Native.Nat.{_≤_};
 ghost use lib.ListN.{length};
 ghost use lib.Dec.{eqb};
 ghost use Rattle.rules.specs.Bytes.{all};
+ghost use Rattle.rules.specs.Numbers.{recordSize};
 ghost use Rattle.rules.specs.Records as records;
 ghost use Rattle.records.specs.Small.{SmallShown};
 
 // Whether every byte is zero: they are added up, without a branch, which the compiler does many at a time.
 fn all_zero(s: &[u8]) -> bool
-    requires { ⌜ length (now s) ≤ 320 ⌝ }
+    requires { ⌜ length (now s) ≤ recordSize ⌝ }
     ensures { λ r. ⌜ r ≡ all (λ b. eqb b 0) (now (s .entry)) ⌝ }
 {
     let mut sum: usize = 0;
@@ -34,7 +41,7 @@ fn all_zero(s: &[u8]) -> bool
 
 // Whether a text of n bytes fits its field, "filled with zeros".
 fn filled(field: &[u8], n: usize) -> bool
-    requires { ⌜ length (now field) ≤ 320 ⌝ }
+    requires { ⌜ length (now field) ≤ recordSize ⌝ }
     ensures { λ r. ⌜ r ≡ records.filled (now (field .entry)) n ⌝ }
 {
     if field.len() < n {
@@ -64,27 +71,27 @@ fn good_service(kind: u8, s: &[u8]) -> bool
 
 // Whether the 320 bytes of one record are good.
 fn good_record(b: &[u8]) -> bool
-    requires { ⌜ length (now b) ≡ 320 ⌝ }
+    requires { ⌜ length (now b) ≡ recordSize ⌝ }
     ensures { λ r. ⌜ r ≡ records.goodRecord (now (b .entry)) ⌝ }
 {
     if b[1] != 0 {
         return false;
     }
-    let service = wide(b[2]);
-    let fits = filled(&b[4..67], service);
+    let service = wide(b[SERVICE_LENGTH_AT]);
+    let fits = filled(&b[SERVICE_AT..SERVICE_AT + SERVICE_SIZE], service);
     if !fits {
         return false;
     }
-    let domain = wide(b[3]);
-    let fits = filled(&b[67..320], domain);
+    let domain = wide(b[DOMAIN_LENGTH_AT]);
+    let fits = filled(&b[DOMAIN_AT..DOMAIN_AT + DOMAIN_SIZE], domain);
     if !fits {
         return false;
     }
-    let good = good_service(b[0], &b[4..4 + service]);
+    let good = good_service(b[0], &b[SERVICE_AT..SERVICE_AT + service]);
     if !good {
         return false;
     }
-    names::domain(&b[67..67 + domain])
+    names::domain(&b[DOMAIN_AT..DOMAIN_AT + domain])
 }
 
 // "Anything else, a total of 0 bytes, or one not divisible by 320 is answer 6."
@@ -139,8 +146,8 @@ pub fn show(references: &[u8], index: usize) -> Shown
     }
     let at = index * RECORD_SIZE;
     let kind = wide(references[at]);
-    let service = wide(references[at + 2]);
-    let domain = wide(references[at + 3]);
+    let service = wide(references[at + SERVICE_LENGTH_AT]);
+    let domain = wide(references[at + DOMAIN_LENGTH_AT]);
     Shown {
         answer: ACCEPTED,
         kind: kind,

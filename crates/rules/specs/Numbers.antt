@@ -52,6 +52,25 @@ recordsLimit = 5120
 abbrev pub recordSize : ℕ
 recordSize = 320
 
+-- "Byte 2 service length, byte 3 domain length. Bytes 4 to 66 service, 67 to 319 domain"
+abbrev pub serviceLengthAt : ℕ
+serviceLengthAt = 2
+
+abbrev pub domainLengthAt : ℕ
+domainLengthAt = 3
+
+abbrev pub serviceAt : ℕ
+serviceAt = 4
+
+abbrev pub serviceSize : ℕ
+serviceSize = 63
+
+abbrev pub domainAt : ℕ
+domainAt = 67
+
+abbrev pub domainSize : ℕ
+domainSize = 253
+
 -- "Byte 0 kind: 1 DNS, 2 SRV, 3 URI, 4 CN."
 abbrev pub dnsKind : ℕ
 dnsKind = 1

@@ -5,7 +5,7 @@ use mathlib.Core.List.{List, [], _∷_, map}
 use lib.ListN.{length, getD, take, drop}
 use lib.Dec.{leb, ltb, eqb}
 use Rattle.rules.specs.Bytes.{part, some?, all}
-use Rattle.rules.specs.Numbers.{dnsKind, srvKind, uriKind, cnKind, recordSize, recordsLimit, accepted, recordsUnreadable, inputTooLong}
+use Rattle.rules.specs.Numbers.{dnsKind, srvKind, uriKind, cnKind, recordSize, serviceLengthAt, domainLengthAt, serviceAt, serviceSize, domainAt, domainSize, recordsLimit, accepted, recordsUnreadable, inputTooLong}
 use Rattle.rules.specs.Names.{domain, service, scheme}
 use Rattle.rules.specs.declared.Shown.{Shown}
 
@@ -17,7 +17,11 @@ pub record Reference : Type 0 where
 
 -- "Byte 0 kind .. Byte 2 service length, byte 3 domain length. Bytes 4 to 66 service, 67 to 319 domain"
 unfoldable pub referenceOf : List ℕ → Reference
-referenceOf b = record { kind = getD b 0 0; service = part b 4 (getD b 2 0); domain = part b 67 (getD b 3 0) }
+referenceOf b = record {
+  kind = getD b 0 0;
+  service = part b serviceAt (getD b serviceLengthAt 0);
+  domain = part b domainAt (getD b domainLengthAt 0);
+}
 
 -- the text fits its field, "filled with zeros"
 unfoldable pub filled : List ℕ → ℕ → Bool
@@ -36,7 +40,9 @@ goodReference r = goodService (r .kind) (r .service) && domain (r .domain)
 -- "Byte 1 zero."
 unfoldable pub goodRecord : List ℕ → Bool
 goodRecord b =
-    eqb (getD b 1 0) 0 && filled (part b 4 63) (getD b 2 0) && filled (part b 67 253) (getD b 3 0)
+    eqb (getD b 1 0) 0
+    && filled (part b serviceAt serviceSize) (getD b serviceLengthAt 0)
+    && filled (part b domainAt domainSize) (getD b domainLengthAt 0)
     && goodReference (referenceOf b)
 
 -- n records, end to end
@@ -62,7 +68,8 @@ noRecord answer = record { answer = answer; kind = 0; service = 0; domain = 0 }
 -- "that record's kind and two lengths, zeros .. past the last"
 unfoldable pub shownAt : List (List ℕ) → ℕ → Shown
 shownAt [] i = noRecord accepted
-shownAt (b ∷ bs) zero = record { answer = accepted; kind = getD b 0 0; service = getD b 2 0; domain = getD b 3 0 }
+shownAt (b ∷ bs) zero =
+    record { answer = accepted; kind = getD b 0 0; service = getD b serviceLengthAt 0; domain = getD b domainLengthAt 0 }
 shownAt (b ∷ bs) (suc i) = shownAt bs i
 
 -- "The record reader takes an index too: 7, then 6, else 0; .. zeros on a refusal"

@@ -32,9 +32,22 @@ pub const CONSTRAINTS_LIMIT: usize = 16384;
 
 pub const RECORDS_LIMIT: usize = 5120;
 
-// The size of a reference record, and the kinds of references.
+// The size of a reference record; where its lengths, its service and its domain stand, and how long the two fields are.
 pub const RECORD_SIZE: usize = 320;
 
+pub const SERVICE_LENGTH_AT: usize = 2;
+
+pub const DOMAIN_LENGTH_AT: usize = 3;
+
+pub const SERVICE_AT: usize = 4;
+
+pub const SERVICE_SIZE: usize = 63;
+
+pub const DOMAIN_AT: usize = 67;
+
+pub const DOMAIN_SIZE: usize = 253;
+
+// The kinds of references.
 pub const DNS: u8 = 1;
 
 pub const SRV: u8 = 2;
