@@ -6,15 +6,13 @@ use der::tagged;
 use der::value;
 use octets::same_bytes;
 use octets::wide;
+use rules::SRV_OID;
 use srv::restriction;
 ghost use Prim.Native.Nat.{_≤_};
 ghost use mathlib.Core.Path.{_≡_};
 ghost use lib.ListN.{length};
 ghost use Rattle.rules.specs.San.{textTag, sealedTag};
 ghost use Rattle.entries.specs.Entries.{srvOidAt, cnOidAt, otherAt, nameAt, kindBy, attributeAt, subtreeAt, asciiAt, goodSrvAt, goodNameAt, goodSubtreeNameAt, goodSubtreeAt};
-
-// "the eight bytes 2B 06 01 05 05 07 08 07"
-const SRV_OID: [u8; 8] = [0x2B, 0x06, 0x01, 0x05, 0x05, 0x07, 0x08, 0x07];
 
 // "The CN's OID content is 55 04 03."
 const CN_OID: [u8; 3] = [0x55, 0x04, 0x03];

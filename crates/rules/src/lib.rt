@@ -56,6 +56,9 @@ pub const URI: u8 = 3;
 
 pub const CN: u8 = 4;
 
+// "the eight bytes 2B 06 01 05 05 07 08 07": the OID of an SRVName.
+pub const SRV_OID: [u8; 8] = [0x2B, 0x06, 0x01, 0x05, 0x05, 0x07, 0x08, 0x07];
+
 // A row of a listing: (kind, start, length, group).
 #[repr(C)]
 pub struct Row {
