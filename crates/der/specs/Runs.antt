@@ -10,7 +10,7 @@ use lib.ListN.{length, length-append}
 use lib.Seq.{slice, slice-empty, length-slice, take-length}
 use lib.Dec.{T, eqb}
 use Rattle.rules.specs.Bytes.{some?}
-use Rattle.rules.specs.Der.{element, header, run}
+use Rattle.rules.specs.Der.{element, header}
 use Rattle.reading.specs.Reader.{then, isSome, got, thenF, Raw, raw, writeRaw, readElement, tagged, alone, items}
 use Rattle.reading.specs.Answers.{no-some, some-of, then-some, when-some, at-end-some}
 use Rattle.reading.specs.Element.{element-sound, element-complete}
@@ -61,6 +61,7 @@ pub record First {A : Type 0} (f : Raw → Option A) (s : List ℕ) (at end tag 
   pub others : Run f s next end
   pub list : itemsIn f s at end ≡ item ∷ itemsIn f s next end
 
+-- an element that is found
 found-some : {X : Type 0} (e : Element) → found? e ≡ true → ((t b n : ℕ) → e ≡ Found t b n → X) → X
 found-some (Found t b n) f k = k t b n refl
 found-some Truncated f k = let z : _≡_ {A = ℕ} 0 1 = cc in absurd (omega arith)
@@ -113,6 +114,7 @@ module _ {A : Type 0} (f : Raw → Option A) (s : List ℕ) (at end : ℕ) (run 
     pub first : (t b n : ℕ) → e ≡ Found t b n → First f s at end t b n
     first t b n found = first-read t b n (found-read s end (run .fits) at (omega arith) t b n (sym e-is ∙ found))
 
+  -- and where the code has read none yet
   pub with-first : {X : Type 0} → ((t b n : ℕ) → First f s at end t b n → X) → X
   with-first k = found-some (elementAt s at end) run-found λ t b n found. k t b n (first _ refl t b n found)
 
@@ -147,12 +149,13 @@ standing s at end t b n fits r x x-is =
     }
 
 module _ {A : Type 0} {f : Raw → Option A} {good : A → Bool} {write : A → Raw} (C : Codec f good write) where
-  -- the value a, a good one, stands there as it is written
+  -- the good value a stands at `at`, as it is written
   pub record Written (s : List ℕ) (at end t b n : ℕ) (a : A) : Type 0 where
     pub good-is : T (good a)
     pub raw-is : raw t (slice b n s) ≡ write a
     pub stands : Stands s at end (write a) b n
 
+  -- as the first element of a run does
   pub written : (s : List ℕ) (at end t b n : ℕ) → end ≤ length s → (w : First f s at end t b n) → Written s at end t b n (w .item)
   written s at end t b n fits w =
       let p = C .sound (raw t (slice b n s)) (w .item-is) in
@@ -266,6 +269,6 @@ san-filled s valid =
     valid-cases readSan s valid (λ e. rw e (absent-filled readName)) λ l p.
     let w = content-read _ s l p in
     then-some (items readName (slice (contentStart s) (length s) s)) _ (w .reads) λ m y z.
-    when-some (some? m) (some m) z λ some j.
+    when-some (some? m) (some m) z λ any j.
     let m-is : m ≡ l = cc in
     rw p (filled readName s l (contentStart s) (w .within) (rw m-is at y))
