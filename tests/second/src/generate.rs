@@ -1,9 +1,11 @@
 //! A seeded generator of whole cases: four inputs of a name check.
 
 pub mod boundary;
+mod crowd;
 mod draft;
 mod mutate;
 pub mod random;
+mod uri;
 mod words;
 
 use draft::Draft;
@@ -24,8 +26,12 @@ pub fn case(seed: u64, number: u64) -> Case {
     let mut random = Random::new(seed, number);
     let pool = Pool::new(&mut random);
     let mut draft = match random.below(100) {
-        0..=1 => Draft::bulk(&mut random, &pool),
-        2..=8 => Draft::sized(&mut random, &pool),
+        0 => Draft::bulk(&mut random, &pool),
+        1 => Draft::far_name(&mut random, &pool),
+        2 => Draft::far_broken(&mut random, &pool),
+        3 => Draft::far_set(&mut random, &pool),
+        4..=5 => Draft::far_subtree(&mut random, &pool),
+        6..=8 => Draft::sized(&mut random, &pool),
         9..=34 => Draft::constrained(&mut random, &pool),
         35..=54 => Draft::subject_only(&mut random, &pool),
         _ => Draft::plain(&mut random, &pool),

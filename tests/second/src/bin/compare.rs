@@ -17,6 +17,9 @@ use std::time::{Instant, SystemTime, UNIX_EPOCH};
 /// Cases under one seed of a soak.
 const SOAK_ROUND: u64 = 100_000;
 
+/// Indexes past the last record; all but one are 0 in fewer bits.
+const FAR_INDEXES: [usize; 4] = [1 << 8, 1 << 16, 1 << 32, usize::MAX];
+
 fn main() -> ExitCode {
     let arguments: Vec<String> = env::args().skip(1).collect();
     let Some(run) = Run::parse(&arguments) else {
@@ -176,7 +179,8 @@ fn compare(case: &Case, old_rows: &mut Random, tally: &mut Tally) -> Result<(), 
     for (which, bytes) in Which::ALL.into_iter().zip(strings) {
         compare_listing(inputs, bytes, which, old_rows, tally)?;
     }
-    for index in (0..inputs.references.len() / RECORD + 2).chain([usize::MAX]) {
+    let far = *old_rows.pick(&FAR_INDEXES);
+    for index in (0..inputs.references.len() / RECORD + 2).chain([far]) {
         let ours = record(inputs.references, index);
         equal(
             &format!("record {index}"),
@@ -188,8 +192,7 @@ fn compare(case: &Case, old_rows: &mut Random, tally: &mut Tally) -> Result<(), 
     Ok(())
 }
 
-/// Lists one string into tables that are exactly long enough, one row too
-/// short, and longer.
+/// Lists one string into tables of several lengths.
 fn compare_listing(
     inputs: Inputs,
     bytes: &[u8],
@@ -198,9 +201,7 @@ fn compare_listing(
     tally: &mut Tally,
 ) -> Result<(), String> {
     let count = list(bytes, which).rows.len();
-    let mut lent = vec![count, count + 1 + old_rows.below(5)];
-    lent.extend(count.checked_sub(1));
-    for lent in lent {
+    for lent in lengths(count, old_rows) {
         let old: Box<[Row]> = (0..lent).map(|_| old_row(old_rows)).collect();
         let (mut our_table, mut their_table) = (old.clone(), old);
         let listed = second::list_into(&mut our_table, bytes, which);
@@ -223,12 +224,24 @@ fn compare_listing(
     Ok(())
 }
 
+/// Lengths of tables for this many rows: exactly long enough, longer, one row
+/// too short, and now and then still shorter.
+fn lengths(count: usize, random: &mut Random) -> Vec<usize> {
+    let more = if random.one_in(8) { 40 } else { 5 };
+    let mut lengths = vec![count, count + 1 + random.below(more)];
+    lengths.extend(count.checked_sub(1));
+    if count > 1 && random.one_in(4) {
+        lengths.push(random.below(count - 1));
+    }
+    lengths
+}
+
 /// A number that asks the archive for this string.
 fn number(which: Which, random: &mut Random) -> usize {
     match which {
         Which::San => 0,
         Which::Subject => 1,
-        Which::Constraints => *random.pick(&[2, 2, 3, 256, usize::MAX]),
+        Which::Constraints => *random.pick(&[2, 2, 3, 256, 1 << 32, usize::MAX]),
     }
 }
 

@@ -1,5 +1,6 @@
 //! Drafts of cases: trees that can still be changed before they are written.
 
+use super::crowd::{alike_set, wide_set};
 use super::words::{near_miss, Pool};
 use super::{Case, Random};
 use crate::longest;
@@ -82,27 +83,6 @@ impl Draft {
         }
     }
 
-    /// A certificate of up to 600 entries and up to 100 sets.
-    pub fn bulk(random: &mut Random, pool: &Pool) -> Self {
-        let mut entries = many_entries(random, pool);
-        if random.one_in(2) {
-            entries.insert(
-                random.below(entries.len() + 1),
-                dns_name(&pool.dns_id(random)),
-            );
-        }
-        let sets = (0..random.below(101)).map(|_| set(random, pool)).collect();
-        let permitted = (0..random.between(1, 60))
-            .flat_map(|_| subtrees(random, pool))
-            .collect();
-        Draft {
-            san: (!entries.is_empty()).then(|| san(entries)),
-            subject: Some(subject(sets)),
-            constraints: random.one_in(3).then(|| constraints(permitted, Vec::new())),
-            references: references(random, pool, &[DNS, DNS, DNS, CN]),
-        }
-    }
-
     /// A certificate with one input at its limit, or next to it.
     pub fn sized(random: &mut Random, pool: &Pool) -> Self {
         let mut draft = Draft::plain(random, pool);
@@ -124,20 +104,6 @@ impl Draft {
         }
         draft
     }
-}
-
-/// Up to 600 entries: none that matches often, or none that keeps a CN from
-/// counting, or all forms.
-fn many_entries(random: &mut Random, pool: &Pool) -> Vec<Node> {
-    let count = random.below(601);
-    let mix = random.below(3);
-    let one = |random: &mut Random| match (mix, random.below(12)) {
-        (0, 0..=5) => dns_name(b"n.example"),
-        (1, 0..=3) => dns_name(&pool.dns_id(random)),
-        (1, 4) => srv_name(b"_m.b"),
-        _ => other_entry(random),
-    };
-    (0..count).map(|_| one(random)).collect()
 }
 
 /// A SAN of exactly this many bytes, with one dNSName at its end.
@@ -168,7 +134,7 @@ pub fn padded_constraints(size: usize) -> Node {
 }
 
 /// One to sixteen records, seldom none or more; each seldom a broken one.
-fn references(random: &mut Random, pool: &Pool, kinds: &[u8]) -> Vec<Vec<u8>> {
+pub fn references(random: &mut Random, pool: &Pool, kinds: &[u8]) -> Vec<Vec<u8>> {
     let count = match random.below(60) {
         0 => 0,
         1 => 17,
@@ -247,7 +213,7 @@ fn dns_text(random: &mut Random, pool: &Pool) -> Vec<u8> {
 }
 
 /// An SRVName's text, `1` in `crooked` times a near miss or of wrong shape.
-fn srv_text(random: &mut Random, pool: &Pool, crooked: usize) -> Vec<u8> {
+pub fn srv_text(random: &mut Random, pool: &Pool, crooked: usize) -> Vec<u8> {
     if !random.one_in(crooked) {
         return pool.srv_id(random);
     }
@@ -271,7 +237,7 @@ fn uri_text(random: &mut Random, pool: &Pool) -> Vec<u8> {
 }
 
 /// An entry that keeps no CN from counting: email, address or another form.
-fn other_entry(random: &mut Random) -> Node {
+pub fn other_entry(random: &mut Random) -> Node {
     const FORMS: [u8; 8] = [0x81, 0x81, 0x87, 0x87, 0x88, 0xA3, 0xA4, 0xA5];
     const NEAR_OIDS: [&[u8]; 4] = [
         &[0x2B, 0x06, 0x01, 0x05, 0x05, 0x07, 0x08],
@@ -289,13 +255,18 @@ fn other_entry(random: &mut Random) -> Node {
 }
 
 /// A subject of few sets, perhaps of none.
-fn small_subject(random: &mut Random, pool: &Pool) -> Option<Node> {
+pub fn small_subject(random: &mut Random, pool: &Pool) -> Option<Node> {
     let sets = (0..random.below(3)).map(|_| set(random, pool)).collect();
     Some(subject(sets))
 }
 
 /// One set: mostly of one attribute, mostly in order.
-fn set(random: &mut Random, pool: &Pool) -> Node {
+pub fn set(random: &mut Random, pool: &Pool) -> Node {
+    match random.below(100) {
+        0 => return wide_set(random, pool),
+        1 => return alike_set(random),
+        _ => {}
+    }
     let count = *random.pick(&[1, 1, 1, 1, 2, 2, 3]);
     let attributes = (0..count).map(|_| any_attribute(random, pool)).collect();
     if random.one_in(20) {
@@ -305,7 +276,7 @@ fn set(random: &mut Random, pool: &Pool) -> Node {
     }
 }
 
-fn any_attribute(random: &mut Random, pool: &Pool) -> Node {
+pub fn any_attribute(random: &mut Random, pool: &Pool) -> Node {
     const OTHER_OIDS: [&[u8]; 6] = [
         &[0x55, 0x04, 0x06],
         &[0x55, 0x04, 0x0A],
@@ -345,7 +316,7 @@ fn cn_text(random: &mut Random, pool: &Pool) -> Vec<u8> {
 }
 
 /// One to three subtrees of one side, SRVNames mostly.
-fn subtrees(random: &mut Random, pool: &Pool) -> Vec<Node> {
+pub fn subtrees(random: &mut Random, pool: &Pool) -> Vec<Node> {
     let mut subtrees = Vec::new();
     for _ in 0..random.between(1, 3) {
         if random.one_in(6) {
@@ -359,7 +330,7 @@ fn subtrees(random: &mut Random, pool: &Pool) -> Vec<Node> {
 
 /// An SRVName subtree in one of the three texts; seldom a broken text, or a
 /// minimum or maximum.
-fn srv_subtree(random: &mut Random, pool: &Pool) -> Node {
+pub fn srv_subtree(random: &mut Random, pool: &Pool) -> Node {
     let mut text = match random.below(3) {
         0 => [b"_", pool.service(random).as_slice()].concat(),
         1 => [
@@ -385,7 +356,7 @@ fn srv_subtree(random: &mut Random, pool: &Pool) -> Node {
 }
 
 /// Subtrees of other forms, which are "read and passed over".
-fn other_subtrees(random: &mut Random) -> Vec<Node> {
+pub fn other_subtrees(random: &mut Random) -> Vec<Node> {
     let one = |random: &mut Random| match random.below(4) {
         0 => dns_name(b"example"),
         1 => uri_name(b".example"),

@@ -36,9 +36,21 @@ impl Random {
         low + self.below(high - low + 1)
     }
 
+    /// A number from 0 to `most`, small ones as often as large ones: first its
+    /// greatest number of bits is drawn, then the number.
+    pub fn spread(&mut self, most: usize) -> usize {
+        let bits = self.between(0, most.ilog2() as usize + 1);
+        self.below(most.min((1 << bits) - 1) + 1)
+    }
+
     /// True once in `count` times.
     pub fn one_in(&mut self, count: usize) -> bool {
         self.below(count) == 0
+    }
+
+    /// A place among `count` things, or behind the last.
+    pub fn place(&mut self, count: usize) -> usize {
+        self.below(count + 1)
     }
 
     pub fn byte(&mut self) -> u8 {

@@ -4,9 +4,9 @@
 use super::Random;
 use crate::examples::domain_of;
 
-const LABELS: [&str; 14] = [
-    "a", "b", "desk", "branch", "example", "1", "0x", "xn--p1ai", "a-b", "www", "host", "com",
-    "k9", "Z",
+const LABELS: [&str; 15] = [
+    "a", "b", "desk", "branch", "example", "1", "0x", "xn--p1ai", "ab--c", "a-b", "www", "host",
+    "com", "k9", "Z",
 ];
 const SERVICES: [&str; 6] = ["m", "mail", "ntp", "xmpp-server", "s1", "9"];
 const SCHEMES: [&str; 7] = ["http", "https", "sip", "ldap+x", "a.b-c", "h", "x9"];
@@ -80,33 +80,6 @@ impl Pool {
         .concat()
     }
 
-    /// A URI with or without a user part, a port and a path.
-    pub fn uri_id(&self, random: &mut Random) -> Vec<u8> {
-        const USERS: [&str; 9] = ["", "", "", "", "@", "u@", "u:p@", "a.b:80@", "%40:;=@"];
-        const PORTS: [&str; 7] = ["", "", "", ":", ":0", ":443", ":99999999999999999999"];
-        const PATHS: [&str; 10] = ["", "", "", "/", "/x", "?q@r", "#f", "/@:/", "?", "#:x"];
-        let mut uri = self.scheme(random);
-        uri.extend(b"://");
-        uri.extend(random.pick(&USERS).bytes());
-        uri.extend(self.domain(random));
-        uri.extend(random.pick(&PORTS).bytes());
-        uri.extend(random.pick(&PATHS).bytes());
-        uri
-    }
-
-    /// A URI whose shape is wrong in one place.
-    pub fn crooked_uri(&self, random: &mut Random) -> Vec<u8> {
-        const SEPARATORS: [&str; 9] = [
-            "://", ":/", "//", ":", ":///", ";//", "://@@", "://u@v@", "://:",
-        ];
-        const PORTS: [&str; 8] = ["", ":8a", ":80:80", ":-1", ":80@", "@", ". ", ":\0"];
-        let mut uri = self.scheme(random);
-        uri.extend(random.pick(&SEPARATORS).bytes());
-        uri.extend(self.dns_id(random));
-        uri.extend(random.pick(&PORTS).bytes());
-        uri
-    }
-
     /// An SRVName whose shape is wrong in one place.
     pub fn crooked_srv(&self, random: &mut Random) -> Vec<u8> {
         let (service, domain) = (self.service(random), self.dns_id(random));
@@ -125,7 +98,14 @@ impl Pool {
     }
 }
 
+/// A domain of one to three labels, now and then like an address or of many
+/// labels.
 fn base_domain(random: &mut Random) -> Vec<u8> {
+    match random.below(60) {
+        0 => return b"192.0.2.1".to_vec(),
+        1 => return deep_domain(random.between(4, 120)),
+        _ => {}
+    }
     let mut domain = label(random);
     for _ in 0..random.below(3) {
         domain = joined(label(random), &domain);
@@ -139,18 +119,34 @@ fn joined(mut label: Vec<u8>, parent: &[u8]) -> Vec<u8> {
     label
 }
 
+/// A domain of this many labels of one letter each.
+pub fn deep_domain(labels: usize) -> Vec<u8> {
+    vec![b"d".as_slice(); labels].join(&b'.')
+}
+
+/// A word over an alphabet, of up to 64 bytes.
+fn word(random: &mut Random, alphabet: &[u8]) -> Vec<u8> {
+    let length = random.between(1, 64);
+    (0..length).map(|_| *random.pick(alphabet)).collect()
+}
+
 /// A label, now and then of 62 to 64 bytes or with a hyphen at an end.
 fn label(random: &mut Random) -> Vec<u8> {
     match random.below(120) {
         0 => b"-a".to_vec(),
         1 => b"a-".to_vec(),
         2..=3 => vec![b'l'; random.between(62, 64)],
+        4..=7 => word(random, b"aZ09kxyL-"),
         _ => random.pick(&LABELS).as_bytes().to_vec(),
     }
 }
 
-/// A domain of 250 to 254 bytes that ends in the base's labels, where it fits.
+/// A domain of 250 to 254 bytes that ends in the base's labels, where it fits,
+/// or one of many labels that ends in them.
 fn long_domain(random: &mut Random, base: &[u8]) -> Vec<u8> {
+    if random.one_in(2) {
+        return joined(deep_domain(random.between(4, 120)), base);
+    }
     let room = random.between(250, 254).saturating_sub(base.len() + 1);
     joined(domain_of(room.max(1)), base)
 }
@@ -161,6 +157,7 @@ fn service(random: &mut Random) -> Vec<u8> {
         0 => b"-m".to_vec(),
         1 => b"m-".to_vec(),
         2..=4 => vec![b's'; random.between(61, 64)],
+        5..=8 => word(random, b"mS09xyzK-"),
         _ => random.pick(&SERVICES).as_bytes().to_vec(),
     }
 }
@@ -170,6 +167,7 @@ fn scheme(random: &mut Random) -> Vec<u8> {
     match random.below(90) {
         0 => b"9x".to_vec(),
         1..=3 => vec![b'u'; random.between(62, 64)],
+        4..=8 => [b"u", word(random, b"uX9+-.").as_slice()].concat(),
         _ => random.pick(&SCHEMES).as_bytes().to_vec(),
     }
 }
