@@ -1,7 +1,12 @@
 //! A fixed table of cases: every limit, every tag, every small text.
 
+mod far;
+mod lengths;
+mod uris;
+
 use super::draft::{padded_constraints, padded_san, padded_subject};
 use super::mutate::{nth, size};
+use super::words::deep_domain;
 use super::Case;
 use crate::examples::{domain_of, J, S};
 use crate::longest;
@@ -19,6 +24,7 @@ pub fn each(take: Taker) {
     longest_inputs(take);
     record_counts(take);
     name_lengths(take);
+    label_counts(take);
     entry_counts(take);
     answer_order(take);
     broken_names(take);
@@ -29,6 +35,9 @@ pub fn each(take: Taker) {
     every_bit(take);
     every_byte(take);
     small_texts(take);
+    far::each(take);
+    lengths::each(take);
+    uris::each(take);
 }
 
 /// S, J and the DNS reference `a.b`.
@@ -105,22 +114,54 @@ fn record_counts(take: Taker) {
 
 /// Texts of every length near a limit, in every role.
 fn name_lengths(take: Taker) {
-    for length in [1, 2, 49, 50, 61, 62, 63, 64, 65, 251, 252, 253, 254, 255] {
-        let label = vec![b'l'; length];
-        for domain in [
-            label.clone(),
-            domain_of(length),
-            [b"x.", label.as_slice()].concat(),
-        ] {
-            for kind in [DNS, SRV, URI, CN] {
-                take(same(kind, b"s", &domain));
+    const LENGTHS: [usize; 18] = [
+        1, 2, 49, 50, 61, 62, 63, 64, 65, 126, 127, 128, 129, 251, 252, 253, 254, 255,
+    ];
+    for length in LENGTHS {
+        for label in [vec![b'l'; length], mixed(length)] {
+            let below = [b"x.", label.as_slice()].concat();
+            for domain in [&label, &domain_of(length), &below] {
+                every_role(take, b"s", domain);
             }
-            take(wildcard(&domain));
-            constrained(b"s", &domain).into_iter().for_each(&mut *take);
+            take(same(SRV, &label, b"a.b"));
+            take(same(URI, &label, b"a.b"));
+            constrained(&label, b"a.b").into_iter().for_each(&mut *take);
         }
-        take(same(SRV, &label, b"a.b"));
-        take(same(URI, &label, b"a.b"));
-        constrained(&label, b"a.b").into_iter().for_each(&mut *take);
+    }
+    for (service, domain) in [(62, 253), (62, 254), (63, 253), (63, 254), (64, 253)] {
+        every_role(take, &mixed(service), &domain_of(domain));
+    }
+}
+
+/// A word of this many bytes: letters, a digit at the end, hyphens.
+fn mixed(length: usize) -> Vec<u8> {
+    let mut word: Vec<u8> = b"k-Zb".iter().copied().cycle().take(length - 1).collect();
+    word.push(b'9');
+    word
+}
+
+/// One service or scheme, and one domain, in every role.
+fn every_role(take: Taker, service: &[u8], domain: &[u8]) {
+    for kind in [DNS, SRV, URI, CN] {
+        take(same(kind, service, domain));
+    }
+    take(wildcard(domain));
+    constrained(service, domain).into_iter().for_each(take);
+}
+
+/// Domains of many labels, and names far below a restriction.
+fn label_counts(take: Taker) {
+    const LABELS: [usize; 13] = [4, 8, 9, 16, 17, 20, 21, 63, 64, 65, 126, 127, 128];
+    for labels in LABELS {
+        every_role(take, b"s", &deep_domain(labels));
+        let name = [b"_s.", deep_domain(labels).as_slice()].concat();
+        for last in [1, 2, labels - 1, labels + 1] {
+            let last = deep_domain(last);
+            let other = [b"x.", last.as_slice()].concat();
+            for domain in [last, other] {
+                restricted(&name, &domain).into_iter().for_each(&mut *take);
+            }
+        }
     }
 }
 
@@ -178,25 +219,24 @@ fn constrained(service: &[u8], domain: &[u8]) -> Vec<Line> {
         full[..1 + service.len()].to_vec(),
         domain.to_vec(),
     ];
-    let mut lines = Vec::new();
-    for form in forms.iter().filter(|form| !form.is_empty()) {
-        let side = vec![subtree(srv_name(form))];
-        for constraints in [
-            constraints(side.clone(), Vec::new()),
-            constraints(Vec::new(), side),
-        ] {
-            let case = Case {
-                san: san(vec![dns_name(b"a.b"), srv_name(&full)]).write(),
-                constraints: constraints.write(),
-                ..base()
-            };
-            lines.push((
-                format!("subtree of {} bytes for {}", form.len(), full.len()),
-                case,
-            ));
-        }
-    }
-    lines
+    let forms = forms.iter().filter(|form| !form.is_empty());
+    forms.flat_map(|form| restricted(&full, form)).collect()
+}
+
+/// An SRVName behind a dNSName, under one restriction, permitted and excluded.
+fn restricted(name: &[u8], restriction: &[u8]) -> Vec<Line> {
+    let side = vec![subtree(srv_name(restriction))];
+    let sides = [(side.clone(), Vec::new()), (Vec::new(), side)];
+    let line = |(permitted, excluded)| {
+        let case = Case {
+            san: san(vec![dns_name(b"a.b"), srv_name(name)]).write(),
+            constraints: constraints(permitted, excluded).write(),
+            ..base()
+        };
+        let what = format!("subtree of {} bytes for {}", restriction.len(), name.len());
+        (what, case)
+    };
+    sides.map(line).into()
 }
 
 /// SANs of few entries, of 511 to 513, and of as many as fit.

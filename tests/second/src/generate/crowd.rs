@@ -167,11 +167,12 @@ fn crowded_side(random: &mut Random, pool: &Pool) -> Vec<Node> {
 /// no pool has.
 fn idle_subtree(random: &mut Random) -> Node {
     const TEXTS: [&[u8]; 4] = [b"_idle", b"idle.a", b"_idle.a", b"_idle.idle"];
-    match random.below(6) {
-        0 => subtree(dns_name(b"a")),
-        1 => subtree(other_entry(random)),
-        _ => subtree(srv_name(random.pick(&TEXTS))),
-    }
+    let text = *random.pick(&TEXTS);
+    subtree(match random.below(6) {
+        0 => dns_name(b"a"),
+        1 => other_entry(random),
+        _ => srv_name(text),
+    })
 }
 
 /// A set of many attributes, with none, one or two CNs, in order or with two
