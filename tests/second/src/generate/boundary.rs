@@ -11,6 +11,7 @@ use super::Case;
 use crate::examples::{domain_of, J, S};
 use crate::longest;
 use crate::records::kind::{CN, DNS, SRV, URI};
+use crate::records::RECORD;
 use crate::tree::*;
 
 /// A case and what it is a case of.
@@ -23,6 +24,7 @@ type Taker<'t> = &'t mut dyn FnMut(Line);
 pub fn each(take: Taker) {
     longest_inputs(take);
     record_counts(take);
+    record_fillers(take);
     name_lengths(take);
     label_counts(take);
     entry_counts(take);
@@ -110,6 +112,36 @@ fn record_counts(take: Taker) {
         references.pop();
         references.extend(record(DNS, b"", if count == 15 { b"a.b" } else { b"c.d" }));
     }
+}
+
+/// Records of every kind with texts of no bytes, of few and of as many as fit,
+/// as they are and with one byte changed at either end of a text or a filler.
+fn record_fillers(take: Taker) {
+    for kind in [DNS, SRV, URI, CN] {
+        for service in [0, 1, 61, 62, 63] {
+            for domain in [0, 1, 127, 200, 252, 253] {
+                let record = record(kind, &vec![b's'; service], &domain_of(domain));
+                let (service, domain) = (4 + service, 67 + domain);
+                for place in [1, service - 1, service, 66, domain - 1, domain, 319, 320] {
+                    take(second_record(&record, place));
+                }
+            }
+        }
+    }
+}
+
+/// A second record, with the byte at this place changed if it has that many.
+fn second_record(record: &[u8], place: usize) -> Line {
+    let mut references = [base().references.as_slice(), record].concat();
+    if let Some(byte) = references[RECORD..].get_mut(place) {
+        *byte ^= 1;
+    }
+    let what = format!("record {:?}, changed at {place}", &record[..4]);
+    let case = Case {
+        references,
+        ..base()
+    };
+    (what, case)
 }
 
 /// Texts of every length near a limit, in every role.

@@ -250,7 +250,11 @@ pub fn other_entry(random: &mut Random) -> Node {
         let oid = *random.pick(&NEAR_OIDS);
         return other_name(oid, inner);
     }
-    let content = vec![*random.pick(b"a0\x7F"); random.below(5)];
+    let length = match random.below(20) {
+        0 => random.spread(300),
+        _ => random.below(5),
+    };
+    let content = vec![*random.pick(b"a0\x7F"); length];
     bytes(*random.pick(&FORMS), &content)
 }
 
@@ -303,7 +307,7 @@ fn cn_text(random: &mut Random, pool: &Pool) -> Vec<u8> {
     let mut text = pool.dns_id(random);
     match random.below(14) {
         0 => text.extend(b"\0.example"),
-        1 => text.push(0),
+        1 => text.push(*random.pick(b"\0 ")),
         2 => {
             let at = random.below(text.len());
             text[at] |= 0x80;

@@ -16,12 +16,14 @@ pub fn each(take: Taker) {
     for before in BEFORE.into_iter().chain(FAR_BEFORE) {
         entries(take, before);
     }
-    for before in BEFORE {
+    for before in BEFORE.into_iter().chain([600, 700]) {
         kept_names(take, before);
+        subtrees(take, before);
+    }
+    for before in BEFORE {
         sets(take, before);
         attributes(take, before);
         alike(take, before);
-        subtrees(take, before);
         spoilt(take, before);
     }
 }
@@ -60,6 +62,7 @@ fn entries(take: Taker, before: usize) {
         (srv_name(b"m"), CN, Vec::new()),
         (uri_name(b""), CN, Vec::new()),
         (email(b""), CN, Vec::new()),
+        (email(&[b'e'; 300]), CN, Vec::new()),
         (srv_name(b"_m.b"), SRV, narrow),
     ];
     for (name, kind, constraints) in names {

@@ -8,6 +8,11 @@ use crate::tree::{record, uri_name};
 pub fn each(take: Taker) {
     long_parts(take);
     every_byte(take);
+    for host in [
+        "%61.b", "a%2Eb", "a.b%00", "[a.b]", " a.b", "a.b ", "u%40a.b",
+    ] {
+        line(take, "odd host", &[b"h://", host.as_bytes()]);
+    }
 }
 
 fn line(take: Taker, what: &str, text: &[&[u8]]) {
