@@ -1,4 +1,4 @@
 pub mod Labels
 pub mod Runs
-pub mod Free
+pub use Rattle.rules.proofs.Free
 mod Laws

@@ -8,6 +8,7 @@ use mathlib.Core.List.{List, [], _∷_}
 use native.Mathlib.Omega.{arith}
 use lib.Dec.{T}
 use Rattle.rules.specs.Bytes.{all}
+pub use Rattle.rules.proofs.Cases.{and-parts, is-true}
 use Rattle.reading.specs.Reader.{then, when, isSome, Refusal, Front, got, refused, shortest, enough, thenF, at-end}
 
 -- ---- options and fronts
@@ -52,19 +53,10 @@ enough-got false o e = absurd (no-got e)
 
 -- ---- tests
 
-pub and-parts : (s t : Bool) → T (s && t) → T s × T t
-and-parts true true h = (tt, tt)
-and-parts true false h = absurd h
-and-parts false t h = absurd h
-
 pub both : (s t : Bool) → T s → T t → T (s && t)
 both true true g h = tt
 both true false g h = h
 both false t g h = g
-
-pub is-true : (t : Bool) → T t → t ≡ true
-is-true true h = refl
-is-true false h = absurd h
 
 -- a weaker test of each
 pub all-weaken : {A : Type 0} (p q : A → Bool) → ((a : A) → T (p a) → T (q a)) → (l : List A) → T (all p l) → T (all q l)

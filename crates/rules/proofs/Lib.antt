@@ -4,3 +4,10 @@ pub mod Holds
 pub mod Test
 pub mod Marked
 pub mod Desk
+-- The names of document 01 as it writes them: parts joined to a text. `Joined` states them, the rest is their proof.
+pub mod Cases
+pub mod Cut
+pub mod Free
+pub mod Joined
+pub mod JoinedNames
+pub mod JoinedUri
