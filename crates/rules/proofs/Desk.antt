@@ -1,7 +1,10 @@
--- The other examples of document 01 that speak of names and verdicts, and its old faults, computed.
-use Prim.Native.Nat.{ℕ}
-use mathlib.Core.Bool.{Bool, true, false}
+-- The other examples of document 01, its old faults, and the smallest examples that tell its other sentences apart, computed.
+use Prim.Native.Nat.{ℕ, _<_}
+use mathlib.Core.Bool.{Bool, true, false, cond}
+use mathlib.Core.Logic.{_↔_}
 use mathlib.Core.List.{List, [], _∷_, _++_}
+use lib.ListN.{length, drop, replicate}
+use lib.Dec.{T, ltb, lt→ltb, ltb→lt}
 use Rattle.rules.specs.Bytes.{part, same, begins, before, after, ascii, upTo}
 use Rattle.rules.specs.Names
 use Rattle.rules.specs.Records
@@ -10,199 +13,308 @@ use Rattle.rules.specs.San
 use Rattle.rules.specs.Subject
 use Rattle.rules.specs.Constraints
 use Rattle.rules.specs.Seen
+use Rattle.rules.specs.Seen.{tooLong, unreadable, listed, sanInput, subjectInput, constraintsInput, Sees, seenRecords}
 use Rattle.rules.specs.Matching
 use Rattle.rules.specs.Verdict
-use Rattle.rules.proofs.Text.{text}
+use Rattle.rules.specs.Listing
+use Rattle.rules.proofs.Text.{text, hex}
 use Rattle.rules.proofs.Test.{all-hold}
-use Rattle.rules.proofs.Holds.{Certificate, Example, subtree, dnsName, noDnsId, verdict, All, recordBytes, five}
-use Rattle.rules.proofs.Marked.{s, sNames, j, jNames}
+use Rattle.rules.proofs.Holds.{Certificate, Example, subtree, dnsName, tested, written, verdict, refused, sanRows, subjectRows, constraintsRows, listing, All, recordBytes, five}
+use Rattle.rules.proofs.Joined.{dotted}
+use Rattle.rules.proofs.Certificates
+use Rattle.rules.proofs.Certificates.{attribute, side}
 
-abbrev cn : List ℕ
-cn = recordBytes 4 [] 63 (text "a.b") 250
+-- n letters, and labels of them with dots between
+abbrev letters : ℕ → List ℕ
+letters n = replicate n 0x61
 
-abbrev dns : List ℕ
-dns = recordBytes 1 [] 63 (text "a.b") 250
+abbrev labelled : ℕ → ℕ → ℕ → ℕ → List ℕ
+labelled a b c d = dotted (letters a ∷ letters b ∷ letters c ∷ letters d ∷ [])
 
-abbrev srv : List ℕ
-srv = recordBytes 2 (text "m") 62 (text "b") 252
+-- what the record reader shows: answer, kind, and the lengths of service and domain
+abbrev shows : List ℕ → ℕ → ℕ → ℕ → ℕ → ℕ → Example
+shows b i answer kind service domain =
+    let r = Records.shown b i in
+    written (r .answer ∷ r .kind ∷ r .service ∷ r .domain ∷ []) (answer ∷ kind ∷ service ∷ domain ∷ [])
 
--- "SAN `30 14 A0 12 .. 5F 6D 2E 62`": the SRVName `_m.b`
-abbrev srvSan : List ℕ
-srvSan = 0x30 ∷ 0x14 ∷ 0xA0 ∷ 0x12 ∷ 0x06 ∷ 0x08 ∷ 0x2B ∷ 0x06 ∷ 0x01 ∷ 0x05 ∷ 0x05 ∷ 0x07 ∷ 0x08 ∷ 0x07 ∷ 0xA0 ∷ 0x06 ∷ 0x16 ∷ 0x04 ∷ 0x5F ∷ 0x6D ∷ 0x2E ∷ 0x62 ∷ []
+-- the witness's text, and where it lies; the SAN lies in block 1 and the subject in block 2
+abbrev witness : Certificate → List ℕ → ℕ → ℕ → List Example
+witness c t block start =
+    let o = Certificates.outcome c in
+    written (Verdict.witnessText (c .san) (c .subject) o) t
+    ∷ written (Verdict.witnessPlace (1, 0) (2, 0) o .0 ∷ Verdict.witnessPlace (1, 0) (2, 0) o .1 ∷ []) (block ∷ start ∷ [])
+    ∷ written (Verdict.witnessPart o .start ∷ Verdict.witnessPart o .length ∷ []) (start ∷ length t ∷ [])
+    ∷ []
 
-abbrev srvNames : List San.GeneralName
-srvNames = San.other San.srvOid 0x16 (text "_m.b") ∷ []
+-- ---- names
 
--- "constraints `30 16 A0 14 .. 5F 6D`": `_m` is permitted; and the same with the last byte 6E
-abbrev permits : ℕ → List ℕ
-permits b = 0x30 ∷ 0x16 ∷ 0xA0 ∷ 0x14 ∷ 0x30 ∷ 0x12 ∷ 0xA0 ∷ 0x10 ∷ 0x06 ∷ 0x08 ∷ 0x2B ∷ 0x06 ∷ 0x01 ∷ 0x05 ∷ 0x05 ∷ 0x07 ∷ 0x08 ∷ 0x07 ∷ 0xA0 ∷ 0x04 ∷ 0x16 ∷ 0x02 ∷ 0x5F ∷ b ∷ []
-
-abbrev permitNames : List ℕ → List (Der.Member San.GeneralName)
-permitNames t = record { group = 0; value = San.other San.srvOid 0x16 t } ∷ []
-
--- "No SAN, J, CN `a.b`: 0 0 0 4 12."
-abbrev cnMatches : Certificate
-cnMatches = record {
-  san = [];
-  sanNames = [];
-  subject = j;
-  subjectNames = jNames;
-  constraints = [];
-  constraintsNames = [];
-  references = cn;
-  numbers = five 0 0 0 4 12;
-}
-
--- "With SAN `30 02 82 00`: answer 1."
-abbrev cnBlocked : Certificate
-cnBlocked = record {
-  san = 0x30 ∷ 0x02 ∷ 0x82 ∷ 0x00 ∷ [];
-  sanNames = San.plain 0x82 [] ∷ [];
-  subject = j;
-  subjectNames = jNames;
-  constraints = [];
-  constraintsNames = [];
-  references = cn;
-  numbers = five 1 0 0 0 0;
-}
-
--- "SRV reference m, `b`: 0 0 0 2 20."
-abbrev srvMatches : Certificate
-srvMatches = record {
-  san = srvSan;
-  sanNames = srvNames;
-  subject = j;
-  subjectNames = jNames;
-  constraints = [];
-  constraintsNames = [];
-  references = srv;
-  numbers = five 0 0 0 2 20;
-}
-
--- "With constraints ..: the same."
-abbrev srvPermitted : Certificate
-srvPermitted = record {
-  san = srvSan;
-  sanNames = srvNames;
-  subject = j;
-  subjectNames = jNames;
-  constraints = permits 0x6D;
-  constraintsNames = permitNames (text "_m");
-  references = srv;
-  numbers = five 0 0 0 2 20;
-}
-
--- "With the last byte 6E: answer 2."
-abbrev srvBroken : Certificate
-srvBroken = record {
-  san = srvSan;
-  sanNames = srvNames;
-  subject = j;
-  subjectNames = jNames;
-  constraints = permits 0x6E;
-  constraintsNames = permitNames (text "_n");
-  references = srv;
-  numbers = five 2 0 0 0 0;
-}
-
--- "Letting a matching DNS-ID excuse a broken SRVName": `a.b` matches, and the SRVName behind it breaks the constraints
-abbrev notExcused : Certificate
-notExcused = record {
-  san = 0x30 ∷ 0x19 ∷ 0x82 ∷ 0x03 ∷ 0x61 ∷ 0x2E ∷ 0x62 ∷ 0xA0 ∷ 0x12 ∷ 0x06 ∷ 0x08 ∷ 0x2B ∷ 0x06 ∷ 0x01 ∷ 0x05 ∷ 0x05 ∷ 0x07 ∷ 0x08 ∷ 0x07 ∷ 0xA0 ∷ 0x06 ∷ 0x16 ∷ 0x04 ∷ 0x5F ∷ 0x6D ∷ 0x2E ∷ 0x62 ∷ [];
-  sanNames = San.plain 0x82 (text "a.b") ∷ srvNames;
-  subject = j;
-  subjectNames = jNames;
-  constraints = permits 0x6E;
-  constraintsNames = permitNames (text "_n");
-  references = dns;
-  numbers = five 2 0 1 0 0;
-}
-
--- "Cutting a CN at a zero byte": the value `a.b`, a zero and `c` is no name
-abbrev cnNotCut : Certificate
-cnNotCut = record {
-  san = [];
-  sanNames = [];
-  subject = 0x30 ∷ 0x10 ∷ 0x31 ∷ 0x0E ∷ 0x30 ∷ 0x0C ∷ 0x06 ∷ 0x03 ∷ 0x55 ∷ 0x04 ∷ 0x03 ∷ 0x0C ∷ 0x05 ∷ 0x61 ∷ 0x2E ∷ 0x62 ∷ 0x00 ∷ 0x63 ∷ [];
-  subjectNames = record { group = 0; value = record { oid = Subject.cnOid; tag = 0x0C; content = text "a.b" ++ (0 ∷ 0x63 ∷ []) } } ∷ [];
-  constraints = [];
-  constraintsNames = [];
-  references = cn;
-  numbers = five 1 0 0 0 0;
-}
-
--- "Stopping at the first name instead of the lowest reference": the second name matches the first reference
-abbrev lowestReference : Certificate
-lowestReference = record {
-  san = 0x30 ∷ 0x0A ∷ 0x82 ∷ 0x03 ∷ 0x63 ∷ 0x2E ∷ 0x64 ∷ 0x82 ∷ 0x03 ∷ 0x61 ∷ 0x2E ∷ 0x62 ∷ [];
-  sanNames = San.plain 0x82 (text "c.d") ∷ San.plain 0x82 (text "a.b") ∷ [];
-  subject = j;
-  subjectNames = jNames;
-  constraints = [];
-  constraintsNames = [];
-  references = dns ++ recordBytes 1 [] 63 (text "c.d") 250;
-  numbers = five 0 0 1 7 5;
-}
-
--- "in a set that has exactly one CN attribute, whatever the tags": this set has two
-abbrev twoCns : Certificate
-twoCns = record {
-  san = [];
-  sanNames = [];
-  subject = 0x30 ∷ 0x1A ∷ 0x31 ∷ 0x18 ∷ 0x30 ∷ 0x0A ∷ 0x06 ∷ 0x03 ∷ 0x55 ∷ 0x04 ∷ 0x03 ∷ 0x0C ∷ 0x03 ∷ 0x61 ∷ 0x2E ∷ 0x62 ∷ 0x30 ∷ 0x0A ∷ 0x06 ∷ 0x03 ∷ 0x55 ∷ 0x04 ∷ 0x03 ∷ 0x13 ∷ 0x03 ∷ 0x61 ∷ 0x2E ∷ 0x62 ∷ [];
-  subjectNames =
-      record { group = 0; value = record { oid = Subject.cnOid; tag = 0x0C; content = text "a.b" } }
-      ∷ record { group = 0; value = record { oid = Subject.cnOid; tag = 0x13; content = text "a.b" } } ∷ [];
-  constraints = [];
-  constraintsNames = [];
-  references = cn;
-  numbers = five 1 0 0 0 0;
-}
-
--- "lie in no excluded SRVName subtree": `_m` is excluded
-abbrev srvExcluded : Certificate
-srvExcluded = record {
-  san = srvSan;
-  sanNames = srvNames;
-  subject = j;
-  subjectNames = jNames;
-  constraints = 0x30 ∷ 0x16 ∷ 0xA1 ∷ 0x14 ∷ 0x30 ∷ 0x12 ∷ 0xA0 ∷ 0x10 ∷ 0x06 ∷ 0x08 ∷ 0x2B ∷ 0x06 ∷ 0x01 ∷ 0x05 ∷ 0x05 ∷ 0x07 ∷ 0x08 ∷ 0x07 ∷ 0xA0 ∷ 0x04 ∷ 0x16 ∷ 0x02 ∷ 0x5F ∷ 0x6D ∷ [];
-  constraintsNames = record { group = 1; value = San.other San.srvOid 0x16 (text "_m") } ∷ [];
-  references = srv;
-  numbers = five 2 0 0 0 0;
-}
-
--- "each filled with zeros": the record's last byte is 1
-abbrev badFill : Certificate
-badFill = record {
-  san = s;
-  sanNames = sNames;
-  subject = j;
-  subjectNames = jNames;
-  constraints = [];
-  constraintsNames = [];
-  references = recordBytes 1 [] 63 (text "a.b") 249 ++ (1 ∷ []);
-  numbers = five 6 0 0 0 0;
-}
-
-abbrev pub table : List Example
-table =
+abbrev domains : List Example
+domains =
     -- "Ending the domain test on text (`1host.branch.example` inside `host.branch.example`)."
     subtree (text "host.branch.example") (text "_mail.1host.branch.example") false
     ∷ subtree (text "host.branch.example") (text "_mail.1.host.branch.example") true
-    ∷ verdict cnMatches
-    ∷ verdict cnBlocked
-    ∷ verdict srvMatches
-    ∷ verdict srvPermitted
-    ∷ verdict srvBroken
-    ∷ verdict notExcused
-    ∷ verdict cnNotCut
-    ∷ verdict lowestReference
-    ∷ verdict twoCns
-    ∷ verdict srvExcluded
-    ∷ verdict badFill
+    -- "Labels of 63 and 64 bytes, domains of 253 and 254"
+    ∷ tested (Names.domain (letters 63)) true
+    ∷ tested (Names.domain (letters 64)) false
+    ∷ tested (Names.domain (labelled 63 63 63 61)) true
+    ∷ tested (Names.domain (labelled 63 63 63 62)) false
+    -- "no hyphen at either end", "No trailing dot", labels of one byte at least, "Labels may be all digits"
+    ∷ tested (Names.domain (text "a-b.1")) true
+    ∷ tested (Names.domain (text "-a")) false
+    ∷ tested (Names.domain (text "a-")) false
+    ∷ tested (Names.domain (text "a.")) false
+    ∷ tested (Names.domain (text "a..b")) false
+    ∷ tested (Names.domain []) false
+    ∷ tested (Names.domain (text "a_b")) false
+    -- "`*.` and a domain (at most 253 bytes in all)"
+    ∷ tested (Names.dnsId (text "*." ++ labelled 63 63 63 59)) true
+    ∷ tested (Names.dnsId (text "*." ++ labelled 63 63 63 60)) false
+    ∷ tested (Names.dnsId (text "*." ++ labelled 63 63 63 61)) false
+    ∷ tested (Names.dnsId (text "*.a")) true
+    ∷ tested (Names.dnsId (text "*")) false
+    -- "Letters compare without case": no byte beside A to Z folds
+    ∷ dnsName (text "A.Z") (text "a.z") true
+    ∷ tested (Names.sameText (text "@[") (hex "60 7B")) false
     ∷ []
 
+abbrev services : List Example
+services =
+    -- "1 to 62 letters, digits, hyphens, no hyphen at an end"
+    tested (Names.srvId (text "_" ++ (letters 62 ++ text ".b"))) true
+    ∷ tested (Names.srvId (text "_" ++ (letters 63 ++ text ".b"))) false
+    ∷ tested (Names.srvId (text "_a-1.b")) true
+    ∷ tested (Names.srvId (text "_-a.b")) false
+    ∷ tested (Names.srvId (text "_a-.b")) false
+    ∷ tested (Names.srvId (text "_.b")) false
+    ∷ tested (Names.srvId (text "_a")) false
+    ∷ tested (Names.srvId (text "_a.*.b")) false
+    -- "one of three texts: `_service`, `_service.domain`, `domain`"
+    ∷ tested (Names.restriction (text "_a")) true
+    ∷ tested (Names.restriction (text "_a.b")) true
+    ∷ tested (Names.restriction (text "b")) true
+    ∷ tested (Names.restriction (text ".b")) false
+    -- "Service or scheme and domain must both match, without case."
+    ∷ tested (Names.srvMatches (text "m") (text "B.c") (text "_M.b.C")) true
+    ∷ tested (Names.srvMatches (text "n") (text "b") (text "_m.b")) false
+    ∷ tested (Names.srvMatches (text "m") (text "c") (text "_m.b")) false
+    ∷ tested (Names.srvMatches (text "m") (text "b") (text "_m.x.b")) false
+    ∷ []
+
+abbrev uris : List Example
+uris =
+    -- "a letter, then letters, digits, "+", "-", "."", "1 to 63 bytes"
+    tested (Names.scheme (letters 63)) true
+    ∷ tested (Names.scheme (letters 64)) false
+    ∷ tested (Names.scheme (text "a+-.1")) true
+    ∷ tested (Names.scheme (text "1a")) false
+    ∷ tested (Names.scheme []) false
+    -- an authority up to each of its ends, with a user part, with a port
+    ∷ tested (Names.uriId (text "a://b")) true
+    ∷ tested (Names.uriId (text "a://b/@c")) true
+    ∷ tested (Names.uriId (text "a://b?@c")) true
+    ∷ tested (Names.uriId (text "a://b#@c")) true
+    ∷ tested (Names.uriId (text "a://u:v@b")) true
+    ∷ tested (Names.uriId (text "a://@b")) true
+    ∷ tested (Names.uriId (text "a://b:80")) true
+    ∷ tested (Names.uriId (text "a://u@b:")) true
+    ∷ tested (Names.uriId (text "a://u@v@b")) false
+    ∷ tested (Names.uriId (text "a://b:8x")) false
+    ∷ tested (Names.uriId (text "a:/b")) false
+    ∷ tested (Names.uriId (text "a:b")) false
+    ∷ tested (Names.uriId (text "a://*.b")) false
+    ∷ tested (Names.uriId (text "://b")) false
+    ∷ tested (Names.uriId (text "a://u@")) false
+    -- "Service or scheme and domain must both match, without case."
+    ∷ tested (Names.uriMatches (text "a-z") (text "b.C") (text "A-Z://u@B.c:1?d")) true
+    ∷ tested (Names.uriMatches (text "c") (text "b") (text "a://b")) false
+    ∷ tested (Names.uriMatches (text "a") (text "c") (text "a://b")) false
+    ∷ tested (Names.uriMatches (text "a") (text "x.b") (text "a://b")) false
+    ∷ tested (Names.uriMatches (text "a") (text "b") (text "a://x.b")) false
+    ∷ []
+
+-- ---- records
+
+abbrev records : List Example
+records =
+    -- "a total of 0 bytes, or one not divisible by 320"
+    tested (Records.goodRecords []) false
+    ∷ tested (Records.goodRecords (recordBytes 1 [] 63 (text "b") 251)) false
+    -- "Byte 0 kind: 1 DNS, 2 SRV, 3 URI, 4 CN. Byte 1 zero."
+    ∷ tested (Records.goodRecords (recordBytes 0 [] 63 (text "b") 252)) false
+    ∷ tested (Records.goodRecords (recordBytes 5 [] 63 (text "b") 252)) false
+    ∷ tested (Records.goodRecords (1 ∷ 1 ∷ drop 2 (recordBytes 1 [] 63 (text "b") 252))) false
+    -- "each filled with zeros"
+    ∷ tested (Records.goodRecords (1 ∷ 0 ∷ 0 ∷ 1 ∷ 1 ∷ drop 5 (recordBytes 1 [] 63 (text "b") 252))) false
+    -- "Kinds 1 and 4 have service length 0. Kind 2: a service .., 1 to 62 bytes. Kind 3: a URI scheme .., 1 to 63 bytes."
+    ∷ tested (Records.goodRecords (recordBytes 1 (text "a") 62 (text "b") 252)) false
+    ∷ tested (Records.goodRecords (recordBytes 4 (text "a") 62 (text "b") 252)) false
+    ∷ tested (Records.goodRecords (recordBytes 2 [] 63 (text "b") 252)) false
+    ∷ tested (Records.goodRecords (recordBytes 2 (letters 62) 1 (text "b") 252)) true
+    ∷ tested (Records.goodRecords (recordBytes 2 (letters 63) 0 (text "b") 252)) false
+    ∷ tested (Records.goodRecords (recordBytes 3 [] 63 (text "b") 252)) false
+    ∷ tested (Records.goodRecords (recordBytes 3 (letters 63) 0 (text "b") 252)) true
+    -- "The domain is as defined below, without a wildcard."
+    ∷ tested (Records.goodRecords (recordBytes 1 [] 63 (text "*.b") 250)) false
+    ∷ tested (Records.goodRecords (recordBytes 1 [] 63 [] 253)) false
+    -- "that record's kind and two lengths, zeros on a refusal or past the last"
+    ∷ shows (recordBytes 2 (text "m") 62 (text "a.b") 250) 0 0 2 1 3
+    ∷ shows (recordBytes 2 (text "m") 62 (text "a.b") 250) 1 0 0 0 0
+    ∷ shows [] 0 6 0 0 0
+    ∷ []
+
+-- ---- the grammar
+
+abbrev generalNames : List Example
+generalNames =
+    -- "one byte to 127; 81 and a byte from 128 to 255; 82 and two bytes from 256"
+    written (Der.lengthBytes 127) (hex "7F")
+    ∷ written (Der.lengthBytes 128) (hex "81 80")
+    ∷ written (Der.lengthBytes 255) (hex "81 FF")
+    ∷ written (Der.lengthBytes 256) (hex "82 01 00")
+    -- "81, 82, 86: every byte below 128. 87, 88, A3, A4, A5: content not looked into. Tags not named here are unreadable."
+    ∷ tested (San.goodName (San.plain 0x81 (hex "7F 80"))) false
+    ∷ tested (San.goodName (San.plain 0x82 (hex "7F 80"))) false
+    ∷ tested (San.goodName (San.plain 0x86 (hex "7F 80"))) false
+    ∷ tested (San.goodName (San.plain 0x86 (hex "00 7F"))) true
+    ∷ tested (San.goodName (San.plain 0x87 (hex "80"))) true
+    ∷ tested (San.goodName (San.plain 0x83 [])) false
+    ∷ tested (San.goodName (San.plain 0xA1 [])) false
+    ∷ tested (San.goodName (San.plain 0x16 [])) false
+    -- "an OID element (tag 06, content not empty)"; "low five bits all ones is unreadable"
+    ∷ tested (San.goodName (San.other [] 0x04 [])) false
+    ∷ tested (San.goodName (San.other (hex "2A") 0x3F [])) false
+    ∷ tested (San.goodName (San.other (hex "2A") 0x00 [])) true
+    -- "that inner element has tag 16, at least one byte, all below 128"
+    ∷ tested (San.goodName (San.other San.srvOid 0x0C (text "_m"))) false
+    ∷ tested (San.goodName (San.other San.srvOid 0x16 [])) false
+    ∷ tested (San.goodName (San.other San.srvOid 0x16 (hex "80"))) false
+    -- "one or more GeneralNames"
+    ∷ tested (San.sanGrammar .good []) false
+    ∷ []
+
+abbrev groups : List Example
+groups =
+    -- "zero or more sets (31), each of one or more attributes (30) of one OID element and one value element"
+    tested (Subject.subjectGrammar .good []) true
+    ∷ tested (Subject.subjectGrammar .good (attribute 0 [] 0x0C [] ∷ [])) false
+    ∷ tested (Subject.subjectGrammar .good (attribute 0 (hex "2A") 0x1F [] ∷ [])) false
+    -- "numbered from 0 without a gap"
+    ∷ tested (Subject.subjectGrammar .good (attribute 1 (hex "2A") 0x0C [] ∷ [])) false
+    ∷ tested (Subject.subjectGrammar .good (attribute 0 (hex "2A") 0x0C [] ∷ attribute 2 (hex "2A") 0x0C [] ∷ [])) false
+    -- "in ascending byte order, equal ones allowed"
+    ∷ tested (Subject.subjectGrammar .good (attribute 0 (hex "2A") 0x0C [] ∷ attribute 0 (hex "2A") 0x0C [] ∷ [])) true
+    ∷ tested (Subject.subjectGrammar .good (attribute 0 (hex "2B") 0x0C [] ∷ attribute 0 (hex "2A") 0x0C [] ∷ [])) false
+    -- "A0 (permitted), A1 (excluded), or both in that order; at least one"
+    ∷ tested (Constraints.constraintsGrammar .good []) false
+    ∷ tested (Constraints.constraintsGrammar .good (side 0 (text "a") ∷ side 1 (text "a") ∷ [])) true
+    ∷ tested (Constraints.constraintsGrammar .good (side 1 (text "a") ∷ side 0 (text "a") ∷ [])) false
+    ∷ tested (Constraints.constraintsGrammar .good (side 2 (text "a") ∷ [])) false
+    -- "An SRVName here has one of three texts"
+    ∷ tested (Constraints.constraintsGrammar .good (side 0 (text ".a") ∷ [])) false
+    ∷ []
+
+-- "An empty string means that the certificate has none"; "It is never absent"; "Empty means none."
+abbrev absences : List Example
+absences = tested (sanInput .optional) true ∷ tested (subjectInput .optional) false ∷ tested (constraintsInput .optional) true ∷ []
+
+-- ---- verdicts
+
+abbrev verdicts : List Example
+verdicts =
+    verdict Certificates.cnMatches
+    ∷ verdict Certificates.cnBlocked
+    ∷ verdict Certificates.srvMatches
+    ∷ verdict Certificates.srvPermitted
+    ∷ verdict Certificates.srvBroken
+    ∷ verdict Certificates.notExcused
+    ∷ verdict Certificates.srvExcluded
+    ∷ verdict Certificates.srvNotExcluded
+    ∷ verdict Certificates.noSrvId
+    ∷ verdict Certificates.otherForm
+    ∷ verdict Certificates.uriMatched
+    ∷ verdict Certificates.otherKind
+    ∷ verdict Certificates.lowestReference
+    ∷ verdict Certificates.secondReference
+    ∷ verdict Certificates.badFill
+    ∷ verdict Certificates.uriBlocks
+    ∷ verdict Certificates.srvBlocks
+    ∷ verdict Certificates.othersPass
+    ∷ verdict (Certificates.cnTagged 0x13 (five 0 0 0 4 12))
+    ∷ verdict (Certificates.cnTagged 0x16 (five 0 0 0 4 12))
+    ∷ verdict (Certificates.cnTagged 0x14 (five 1 0 0 0 0))
+    ∷ verdict (Certificates.twoCns 0x13)
+    ∷ verdict (Certificates.twoCns 0x14)
+    ∷ verdict Certificates.cnAndOther
+    ∷ verdict Certificates.secondSet
+    ∷ verdict Certificates.cnNotCut
+    ∷ []
+
+-- "Order for a verdict: 7 for any of the four inputs, then 6, 3, 4, 5"
+abbrev refusals : List Example
+refusals =
+    refused tooLong unreadable unreadable unreadable 7
+    ∷ refused unreadable tooLong unreadable unreadable 7
+    ∷ refused unreadable unreadable tooLong unreadable 7
+    ∷ refused unreadable unreadable unreadable tooLong 7
+    ∷ refused unreadable unreadable unreadable unreadable 6
+    ∷ refused (listed []) unreadable unreadable unreadable 3
+    ∷ refused (listed []) (listed []) unreadable unreadable 4
+    ∷ refused (listed []) (listed []) (listed []) unreadable 5
+    ∷ []
+
+-- "is handed back as a part of the certificate's own bytes. On any answer but 0 that part is empty, at the start of the SAN."
+abbrev witnesses : List Example
+witnesses =
+    witness Certificates.lowestReference (text "a.b") 1 9
+    ++ (witness Certificates.srvMatches (text "_m.b") 1 18
+    ++ (witness Certificates.uriMatched (text "a://u@b:1/") 1 4
+    ++ (witness Certificates.cnMatches (text "a.b") 2 13
+    ++ (witness Certificates.srvBroken [] 1 0 ++ (witness Certificates.badFill [] 1 0 ++ witness Certificates.cnBlocked [] 1 0)))))
+
+-- ---- listings
+
+abbrev listings : List Example
+listings =
+    sanRows Certificates.sanListed
+    ∷ subjectRows Certificates.subjectListed
+    ∷ constraintsRows Certificates.constraintsListed
+    ∷ listing Certificates.fits
+    ∷ listing Certificates.tooShort
+    ∷ listing Certificates.long
+    ∷ listing Certificates.unread
+    ∷ []
+
+abbrev pub table : List Example
+table =
+    domains ++ (services ++ (uris ++ (records ++ (generalNames ++ (groups ++ (absences ++ (verdicts ++ (refusals ++ (witnesses ++ listings)))))))))
+
 pub desk : All table
-unfolding part same begins before after ascii upTo Names.letter Names.digit Names.letterDigitHyphen Names.lower Names.sameText Names.ldh Names.label Names.longer Names.labels Names.domain Names.sameLabels Names.sameDomain Names.wildcard Names.dnsId Names.leftmostMatches Names.labelsMatch Names.dnsMatches Names.service Names.serviceOf Names.domainOf Names.srvId Names.srvMatches Names.restriction Names.givenService Names.givenDomain Names.lastLabels Names.domainWithin Names.inSubtree Records.referenceOf Records.filled Records.goodService Records.goodReference Records.goodRecord Records.split Records.recordsOf Records.goodRecords Records.referencesOf Der.lengthBytes Der.element Der.header Der.run Der.push Der.groups Der.rowsOfMembers Der.rowsOfGroups San.tagOf San.contentOf San.writeName San.sealed San.goodValue San.goodSrvName San.goodName San.nameKind San.rowsOfNames Subject.writeAttribute Subject.goodAttribute Subject.writeSet Subject.goodSet Subject.numbered Subject.isCn Subject.attributeKind Subject.attributeRow Seen.seenRecords Matching.taggedText Matching.srvText Matching.entryText Matching.soleCn Matching.cnText Matching.blocksCn Matching.presentedIn Matching.presentedTo Matching.textMatches Matching.matches Matching.firstPair Matching.srvSubtrees Matching.liesIn Matching.allowed Matching.breaks Matching.firstBroken Verdict.witnessOf Verdict.judged Verdict.outcomeOf Verdict.numbersOf Verdict.verdictOf Constraints.goodRestriction Constraints.goodSubtree Constraints.writeSubtree Constraints.writeSide Constraints.goodSide Constraints.subtreeRow
+unfolding part same begins before after ascii upTo Names.letter Names.digit Names.letterDigitHyphen Names.lower Names.sameText Names.ldh Names.label Names.longer Names.labels Names.domain Names.sameLabels Names.sameDomain Names.wildcard Names.dnsId Names.leftmostMatches Names.labelsMatch Names.dnsMatches Names.service Names.serviceOf Names.domainOf Names.srvId Names.srvMatches Names.restriction Names.givenService Names.givenDomain Names.lastLabels Names.domainWithin Names.inSubtree Names.schemeByte Names.scheme Names.schemeOf Names.authorityEnd Names.authorityOf Names.hostAndPort Names.hostOf Names.portOf Names.uriId Names.uriMatches Records.referenceOf Records.filled Records.goodService Records.goodReference Records.goodRecord Records.split Records.recordsOf Records.goodRecords Records.referencesOf Der.lengthBytes Der.element Der.header Der.run Der.push Der.groups Der.rowsOfMembers Der.rowsOfGroups San.tagOf San.contentOf San.writeName San.sealed San.goodValue San.goodSrvName San.goodName San.nameKind San.rowsOfNames Subject.writeAttribute Subject.goodAttribute Subject.writeSet Subject.goodSet Subject.numbered Subject.isCn Subject.attributeKind Subject.attributeRow Seen.seenRecords Matching.taggedText Matching.srvText Matching.entryText Matching.soleCn Matching.cnText Matching.blocksCn Matching.presentedIn Matching.presentedTo Matching.textMatches Matching.matches Matching.firstPair Matching.srvSubtrees Matching.liesIn Matching.allowed Matching.breaks Matching.firstBroken Verdict.witnessOf Verdict.judged Verdict.outcomeOf Verdict.numbersOf Verdict.verdictOf Constraints.goodRestriction Constraints.goodSubtree Constraints.writeSubtree Constraints.writeSide Constraints.goodSide Constraints.subtreeRow Listing.listedOf Listing.tableAfter Records.shownAt Records.shown Verdict.witnessText Verdict.witnessPlace Verdict.witnessPart
 desk = all-hold table tt
+
+-- ---- "Longest inputs, in bytes: SAN 16,384; subject 4,096; constraints 16,384; references 5,120. One byte more is answer 7."
+
+pub record Limits : Type 0 where
+  pub san : (b : List ℕ) → Sees sanInput b tooLong ↔ (16384 < length b)
+  pub subject : (b : List ℕ) → Sees subjectInput b tooLong ↔ (4096 < length b)
+  pub constraints : (b : List ℕ) → Sees constraintsInput b tooLong ↔ (16384 < length b)
+  pub references : (b : List ℕ) → T (Verdict.isLong (seenRecords b)) ↔ (5120 < length b)
+
+long-records : (t u : Bool) (l : List Records.Reference) → T (Verdict.isLong (cond t tooLong (cond u (listed l) unreadable))) ↔ T t
+long-records true u l = (λ h. h, λ h. h)
+long-records false true l = (λ h. h, λ h. h)
+long-records false false l = (λ h. h, λ h. h)
+
+records-limit : (b : List ℕ) → T (Verdict.isLong (seenRecords b)) ↔ (5120 < length b)
+unfolding seenRecords
+records-limit b =
+    let e = long-records (ltb 5120 (length b)) (Records.goodRecords b) (Records.referencesOf b) in
+    (λ h. ltb→lt 5120 (length b) (e .0 h), λ h. e .1 (lt→ltb 5120 (length b) h))
+
+pub limits : Limits
+limits = record {
+  san = λ b. (λ h. h, λ h. h);
+  subject = λ b. (λ h. h, λ h. h);
+  constraints = λ b. (λ h. h, λ h. h);
+  references = records-limit;
+}

@@ -1,18 +1,28 @@
 -- What an example of document 01 says about the rules.
 use Prim.Native.Nat.{ℕ}
 use mathlib.Core.Path.{_≡_}
-use mathlib.Core.Bool.{Bool, true, false}
+use mathlib.Core.Bool.{Bool, false}
 use mathlib.Core.List.{List, [], _∷_, _++_}
 use lib.ListN.{length, replicate}
 use lib.Dec.{T}
 use Rattle.rules.specs.Names.{restriction, srvId, inSubtree, dnsId, dnsMatches}
-use Rattle.rules.specs.Numbers.{dnsKind, srvKind, cnKind}
+use Rattle.rules.specs.Records.{Reference}
 use Rattle.rules.specs.Der.{Member}
 use Rattle.rules.specs.San.{GeneralName}
 use Rattle.rules.specs.Subject.{Attribute}
-use Rattle.rules.specs.Seen.{Seen, listed, sanInput, subjectInput, constraintsInput, Sees, seenRecords}
+use Rattle.rules.specs.Seen.{Seen, listed, Input, sanInput, subjectInput, constraintsInput, Sees, seenRecords}
 use Rattle.rules.specs.Verdict.{verdictOf}
+use Rattle.rules.specs.Listing.{listedOf, tableAfter}
+use Rattle.rules.specs.declared.Row.{Row}
+use Rattle.rules.specs.declared.Listed.{Listed}
 use Rattle.rules.specs.declared.Verdict.{Verdict}
+
+-- a verdict's five numbers, and a row's four
+abbrev pub five : ℕ → ℕ → ℕ → ℕ → ℕ → Verdict
+five a r p s l = record { answer = a; reference = r; presented = p; start = s; length = l }
+
+abbrev pub row : ℕ → ℕ → ℕ → ℕ → Row
+row k s l g = record { kind = k; start = s; length = l; group = g }
 
 -- a whole certificate: its strings, the lists that the grammar writes as them, our records, and the verdict's numbers
 pub record Certificate : Type 0 where
@@ -25,6 +35,20 @@ pub record Certificate : Type 0 where
   pub references : List ℕ
   pub numbers : Verdict
 
+-- a certificate string: its bytes, the list that the grammar writes as them, and its rows
+pub record Rows (Name : Type 0) : Type 0 where
+  pub bytes : List ℕ
+  pub names : List Name
+  pub rows : List Row
+
+-- a listing: the string's own refusal, the rows seen of it, the table lent, and what is answered and left in the table
+pub record Listing : Type 0 where
+  pub refusal : ℕ
+  pub seen : Seen Row
+  pub lent : List Row
+  pub answered : Listed
+  pub table : List Row
+
 pub data Example : Type 0 where
   -- an SRVName lies in a restriction, or does not
   subtree : List ℕ → List ℕ → Bool → Example
@@ -32,18 +56,42 @@ pub data Example : Type 0 where
   dnsName : List ℕ → List ℕ → Bool → Example
   -- a text is no DNS-ID
   noDnsId : List ℕ → Example
+  -- a test of the rules passes, or does not
+  tested : Bool → Bool → Example
+  -- bytes are written so
+  written : List ℕ → List ℕ → Example
   -- a verdict, through the grammar
   verdict : Certificate → Example
+  -- a refusal, by what is seen of the records and the three strings
+  refused : Seen Reference → Seen GeneralName → Seen (Member Attribute) → Seen (Member GeneralName) → ℕ → Example
+  -- the rows of a string, through the grammar
+  sanRows : Rows GeneralName → Example
+  subjectRows : Rows (Member Attribute) → Example
+  constraintsRows : Rows (Member GeneralName) → Example
+  -- a listing into a lent table
+  listing : Listing → Example
+
+-- the grammar writes the list as the bytes, and these are its rows
+abbrev pub HasRows : {Name : Type 0} → Input Name → Rows Name → Type 0
+HasRows I r = Sees I (r .bytes) (listed (r .names)) × (I .grammar .rows (r .names) ≡ r .rows)
 
 abbrev pub Holds : Example → Type 0
 Holds (subtree restricted name inside) = T (restriction restricted) × T (srvId name) × (inSubtree restricted name ≡ inside)
 Holds (dnsName presented reference matched) = dnsMatches reference presented ≡ matched
 Holds (noDnsId presented) = dnsId presented ≡ false
+Holds (tested test passed) = test ≡ passed
+Holds (written bytes shown) = bytes ≡ shown
 Holds (verdict c) =
     Sees sanInput (c .san) (listed (c .sanNames))
     × Sees subjectInput (c .subject) (listed (c .subjectNames))
     × Sees constraintsInput (c .constraints) (listed (c .constraintsNames))
     × (verdictOf (seenRecords (c .references)) (listed (c .sanNames)) (listed (c .subjectNames)) (listed (c .constraintsNames)) ≡ c .numbers)
+Holds (refused references san subject constraints answer) = verdictOf references san subject constraints ≡ five answer 0 0 0 0
+Holds (sanRows r) = HasRows sanInput r
+Holds (subjectRows r) = HasRows subjectInput r
+Holds (constraintsRows r) = HasRows constraintsInput r
+Holds (listing l) =
+    (listedOf (l .refusal) (l .seen) (length (l .lent)) ≡ l .answered) × (tableAfter (l .seen) (l .lent) ≡ l .table)
 
 -- every example of a table holds
 abbrev pub All : List Example → Type 0
@@ -56,6 +104,3 @@ All (e ∷ es) = Holds e × All es
 abbrev pub recordBytes : ℕ → List ℕ → ℕ → List ℕ → ℕ → List ℕ
 recordBytes kind service serviceFill domain domainFill =
     kind ∷ 0 ∷ length service ∷ length domain ∷ ((service ++ replicate serviceFill 0) ++ (domain ++ replicate domainFill 0))
-
-abbrev pub five : ℕ → ℕ → ℕ → ℕ → ℕ → Verdict
-five a r p s l = record { answer = a; reference = r; presented = p; start = s; length = l }

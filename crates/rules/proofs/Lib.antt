@@ -3,6 +3,7 @@ pub mod Text
 pub mod Holds
 pub mod Test
 pub mod Marked
+pub mod Certificates
 pub mod Desk
 -- The names of document 01 as it writes them: parts joined to a text. `Joined` states them, the rest is their proof.
 pub mod Cases

@@ -1,7 +1,7 @@
 -- P1 to P16: the examples that document 01 marks, as one table under one proved statement.
 use Prim.Native.Nat.{ℕ}
-use mathlib.Core.Bool.{Bool, true, false}
-use mathlib.Core.List.{List, [], _∷_, _++_}
+use mathlib.Core.Bool.{true, false}
+use mathlib.Core.List.{List, [], _∷_}
 use Rattle.rules.specs.Bytes.{part, same, begins, before, after, ascii, upTo}
 use Rattle.rules.specs.Names
 use Rattle.rules.specs.Records

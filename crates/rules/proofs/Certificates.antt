@@ -1,0 +1,282 @@
+-- The certificates, rows and listings of the desk examples: what document 01 writes out, and the smallest ones that tell its other
+-- sentences apart.
+use Prim.Native.Nat.{ℕ}
+use mathlib.Core.List.{List, [], _∷_, _++_}
+use Rattle.rules.specs.Der
+use Rattle.rules.specs.San
+use Rattle.rules.specs.Subject
+use Rattle.rules.specs.Seen.{tooLong, unreadable, listed, seenRecords}
+use Rattle.rules.specs.Verdict.{outcomeOf}
+use Rattle.rules.specs.declared.Outcome.{Outcome}
+use Rattle.rules.specs.declared.Row.{Row}
+use Rattle.rules.specs.declared.Verdict.{Verdict}
+use Rattle.rules.proofs.Text.{text, hex}
+use Rattle.rules.proofs.Holds.{Certificate, Rows, Listing, recordBytes, five, row}
+use Rattle.rules.proofs.Marked.{s, sNames, j, jNames}
+
+-- ---- references
+
+abbrev dns : List ℕ
+dns = recordBytes 1 [] 63 (text "a.b") 250
+
+abbrev srv : List ℕ
+srv = recordBytes 2 (text "m") 62 (text "b") 252
+
+abbrev uri : List ℕ
+uri = recordBytes 3 (text "a") 62 (text "b") 252
+
+abbrev cn : List ℕ
+cn = recordBytes 4 [] 63 (text "a.b") 250
+
+-- ---- names
+
+abbrev srvName : List ℕ → San.GeneralName
+srvName t = San.other San.srvOid 0x16 t
+
+-- an attribute in its set
+abbrev pub attribute : ℕ → List ℕ → ℕ → List ℕ → Der.Member Subject.Attribute
+attribute set oid tag content = record { group = set; value = record { oid = oid; tag = tag; content = content } }
+
+-- a subtree on its side: 0 permitted, 1 excluded
+abbrev subtree : ℕ → San.GeneralName → Der.Member San.GeneralName
+subtree side n = record { group = side; value = n }
+
+-- one with an SRVName
+abbrev pub side : ℕ → List ℕ → Der.Member San.GeneralName
+side number t = subtree number (srvName t)
+
+-- ---- certificates
+
+-- a certificate with constraints. "Where none is named, the subject is J"
+abbrev constrained : List ℕ → List San.GeneralName → List ℕ → List (Der.Member San.GeneralName) → List ℕ → Verdict → Certificate
+constrained san names constraints subtrees references numbers = record {
+  san = san;
+  sanNames = names;
+  subject = j;
+  subjectNames = jNames;
+  constraints = constraints;
+  constraintsNames = subtrees;
+  references = references;
+  numbers = numbers;
+}
+
+-- ".. and constraints are absent"
+abbrev bySan : List ℕ → List San.GeneralName → List ℕ → Verdict → Certificate
+bySan san names references numbers = constrained san names [] [] references numbers
+
+-- no SAN: the subject decides
+abbrev bySubject : List ℕ → List (Der.Member Subject.Attribute) → Verdict → Certificate
+bySubject subject names numbers = record {
+  san = [];
+  sanNames = [];
+  subject = subject;
+  subjectNames = names;
+  constraints = [];
+  constraintsNames = [];
+  references = cn;
+  numbers = numbers;
+}
+
+-- how its verdict ends
+abbrev pub outcome : Certificate → Outcome
+outcome c = outcomeOf (seenRecords (c .references)) (listed (c .sanNames)) (listed (c .subjectNames)) (listed (c .constraintsNames))
+
+-- "No SAN, J, CN `a.b`: 0 0 0 4 12."
+abbrev pub cnMatches : Certificate
+cnMatches = bySubject j jNames (five 0 0 0 4 12)
+
+-- "With SAN `30 02 82 00`: answer 1."
+abbrev pub cnBlocked : Certificate
+cnBlocked = bySan (hex "30 02 82 00") (San.plain 0x82 [] ∷ []) cn (five 1 0 0 0 0)
+
+-- "SAN `30 14 A0 12 06 08 2B 06 01 05 05 07 08 07 A0 06 16 04 5F 6D 2E 62`": the SRVName `_m.b`
+abbrev srvSan : List ℕ
+srvSan = hex "30 14 A0 12 06 08 2B 06 01 05 05 07 08 07 A0 06 16 04 5F 6D 2E 62"
+
+abbrev srvNames : List San.GeneralName
+srvNames = srvName (text "_m.b") ∷ []
+
+-- ".. SRV reference m, `b`: 0 0 0 2 20."
+abbrev pub srvMatches : Certificate
+srvMatches = bySan srvSan srvNames srv (five 0 0 0 2 20)
+
+-- "With constraints `30 16 A0 14 30 12 A0 10 06 08 2B 06 01 05 05 07 08 07 A0 04 16 02 5F 6D`: the same."
+abbrev pub srvPermitted : Certificate
+srvPermitted =
+    constrained srvSan srvNames (hex "30 16 A0 14 30 12 A0 10 06 08 2B 06 01 05 05 07 08 07 A0 04 16 02 5F 6D")
+    (side 0 (text "_m") ∷ []) srv (five 0 0 0 2 20)
+
+-- "With the last byte 6E: answer 2."
+abbrev permitsOther : List ℕ
+permitsOther = hex "30 16 A0 14 30 12 A0 10 06 08 2B 06 01 05 05 07 08 07 A0 04 16 02 5F 6E"
+
+abbrev permitsOtherNames : List (Der.Member San.GeneralName)
+permitsOtherNames = side 0 (text "_n") ∷ []
+
+abbrev pub srvBroken : Certificate
+srvBroken = constrained srvSan srvNames permitsOther permitsOtherNames srv (five 2 0 0 0 0)
+
+-- "Letting a matching DNS-ID excuse a broken SRVName": `a.b` matches, and the SRVName behind it breaks the constraints
+abbrev pub notExcused : Certificate
+notExcused =
+    constrained (hex "30 19 82 03 61 2E 62 A0 12 06 08 2B 06 01 05 05 07 08 07 A0 06 16 04 5F 6D 2E 62")
+    (San.plain 0x82 (text "a.b") ∷ srvNames) permitsOther permitsOtherNames dns (five 2 0 1 0 0)
+
+-- "lie in no excluded SRVName subtree": `_m` is excluded
+abbrev pub srvExcluded : Certificate
+srvExcluded =
+    constrained srvSan srvNames (hex "30 16 A1 14 30 12 A0 10 06 08 2B 06 01 05 05 07 08 07 A0 04 16 02 5F 6D")
+    (side 1 (text "_m") ∷ []) srv (five 2 0 0 0 0)
+
+-- `_n` is excluded, and nothing is permitted
+abbrev excludesOther : List ℕ
+excludesOther = hex "30 16 A1 14 30 12 A0 10 06 08 2B 06 01 05 05 07 08 07 A0 04 16 02 5F 6E"
+
+abbrev excludesOtherNames : List (Der.Member San.GeneralName)
+excludesOtherNames = side 1 (text "_n") ∷ []
+
+-- "if any permitted SRVName subtree exists, lie in one": none does, so `_m.b` need not
+abbrev pub srvNotExcluded : Certificate
+srvNotExcluded = constrained srvSan srvNames excludesOther excludesOtherNames srv (five 0 0 0 2 20)
+
+-- "if the constraints hold any SRVName subtree, each presented SRVName must be an SRV-ID": `m` is none
+abbrev pub noSrvId : Certificate
+noSrvId =
+    constrained (hex "30 11 A0 0F 06 08 2B 06 01 05 05 07 08 07 A0 03 16 01 6D") (srvName (text "m") ∷ []) excludesOther
+    excludesOtherNames srv (five 2 0 0 0 0)
+
+-- "Other forms in the constraints are read and passed over": the dNSName `b` is permitted, and `m` breaks nothing
+abbrev pub otherForm : Certificate
+otherForm =
+    constrained (hex "30 11 A0 0F 06 08 2B 06 01 05 05 07 08 07 A0 03 16 01 6D") (srvName (text "m") ∷ [])
+    (hex "30 07 A0 05 30 03 82 01 62") (subtree 0 (San.plain 0x82 (text "b")) ∷ []) srv (five 1 0 0 0 0)
+
+-- "URI-ID: ..": the content `a://u@b:1/`
+abbrev pub uriMatched : Certificate
+uriMatched = bySan (hex "30 0C 86 0A 61 3A 2F 2F 75 40 62 3A 31 2F") (San.plain 0x86 (text "a://u@b:1/") ∷ []) uri (five 0 0 0 2 12)
+
+-- "A reference matches only its own kind": the text `a.b`, as a URI
+abbrev pub otherKind : Certificate
+otherKind = bySan (hex "30 05 86 03 61 2E 62") (San.plain 0x86 (text "a.b") ∷ []) dns (five 1 0 0 0 0)
+
+-- "Stopping at the first name instead of the lowest reference": the second name matches the first reference
+abbrev pub lowestReference : Certificate
+lowestReference =
+    bySan (hex "30 0A 82 03 63 2E 64 82 03 61 2E 62") (San.plain 0x82 (text "c.d") ∷ San.plain 0x82 (text "a.b") ∷ [])
+    (dns ++ recordBytes 1 [] 63 (text "c.d") 250) (five 0 0 1 7 5)
+
+-- "the witnessing pair": only the second reference matches
+abbrev pub secondReference : Certificate
+secondReference = bySan s sNames (recordBytes 1 [] 63 (text "c.d") 250 ++ dns) (five 0 1 0 2 5)
+
+-- "each filled with zeros": the record's last byte is 1
+abbrev pub badFill : Certificate
+badFill = bySan s sNames (recordBytes 1 [] 63 (text "a.b") 249 ++ (1 ∷ [])) (five 6 0 0 0 0)
+
+-- ---- the CN
+
+-- "CN references count only if the SAN has no entry tagged 82 or 86 and no SRVName, readable as a name or not."
+abbrev pub uriBlocks : Certificate
+uriBlocks = bySan (hex "30 03 86 01 61") (San.plain 0x86 (text "a") ∷ []) cn (five 1 0 0 0 0)
+
+abbrev pub srvBlocks : Certificate
+srvBlocks = bySan (hex "30 11 A0 0F 06 08 2B 06 01 05 05 07 08 07 A0 03 16 01 6D") (srvName (text "m") ∷ []) cn (five 1 0 0 0 0)
+
+-- "Email or address entries don't block the CN", nor does another otherName
+abbrev pub othersPass : Certificate
+othersPass =
+    bySan (hex "30 13 81 01 61 A0 08 06 01 2A A0 03 16 01 61 87 04 01 02 03 04")
+    (San.plain 0x81 (text "a") ∷ San.other (hex "2A") 0x16 (text "a") ∷ San.plain 0x87 (hex "01 02 03 04") ∷ []) cn (five 0 0 0 4 12)
+
+-- "tag 0C, 13 or 16": J with another tag
+abbrev pub cnTagged : ℕ → Verdict → Certificate
+cnTagged tag numbers =
+    bySubject (hex "30 0E 31 0C 30 0A 06 03 55 04 03" ++ tag ∷ hex "03 61 2E 62") (attribute 0 Subject.cnOid tag (text "a.b") ∷ []) numbers
+
+-- "in a set that has exactly one CN attribute, whatever the tags": this set has two, of which the second has any tag
+abbrev pub twoCns : ℕ → Certificate
+twoCns tag =
+    bySubject (hex "30 1A 31 18 30 0A 06 03 55 04 03 0C 03 61 2E 62 30 0A 06 03 55 04 03" ++ tag ∷ hex "03 61 2E 62")
+    (attribute 0 Subject.cnOid 0x0C (text "a.b") ∷ attribute 0 Subject.cnOid tag (text "a.b") ∷ []) (five 1 0 0 0 0)
+
+-- an attribute of another type beside it does not count
+abbrev pub cnAndOther : Certificate
+cnAndOther =
+    bySubject (hex "30 18 31 16 30 08 06 03 55 04 0A 0C 01 78 30 0A 06 03 55 04 03 0C 03 61 2E 62")
+    (attribute 0 (hex "55 04 0A") 0x0C (text "x") ∷ attribute 0 Subject.cnOid 0x0C (text "a.b") ∷ []) (five 0 0 0 14 12)
+
+-- "the RDNs of the subject for a CN": two sets with one CN each, and the second is `a.b`
+abbrev pub secondSet : Certificate
+secondSet =
+    bySubject (hex "30 1C 31 0C 30 0A 06 03 55 04 03 0C 03 63 2E 64 31 0C 30 0A 06 03 55 04 03 0C 03 61 2E 62")
+    (attribute 0 Subject.cnOid 0x0C (text "c.d") ∷ attribute 1 Subject.cnOid 0x0C (text "a.b") ∷ []) (five 0 0 1 18 12)
+
+-- "Cutting a CN at a zero byte": the value `a.b`, a zero and `c` is no name
+abbrev pub cnNotCut : Certificate
+cnNotCut =
+    bySubject (hex "30 10 31 0E 30 0C 06 03 55 04 03 0C 05 61 2E 62 00 63") (attribute 0 Subject.cnOid 0x0C (hex "61 2E 62 00 63") ∷ [])
+    (five 1 0 0 0 0)
+
+-- ---- rows
+
+-- "Kinds: tag's low five bits; 9 for an SRVName"; "Group: entry index"
+abbrev pub sanListed : Rows San.GeneralName
+sanListed = record {
+  bytes = hex "30 32 81 01 61 82 01 62 86 01 63 87 01 01 88 01 2A A3 00 A4 00 A5 00 A0 07 06 01 2A A0 02 04 00 A0 12 06 08 2B 06 01 05 05 07 08 07 A0 06 16 04 5F 6D 2E 62";
+  names =
+      San.plain 0x81 (text "a") ∷ San.plain 0x82 (text "b") ∷ San.plain 0x86 (text "c") ∷ San.plain 0x87 (hex "01") ∷ San.plain 0x88 (hex "2A")
+      ∷ San.plain 0xA3 [] ∷ San.plain 0xA4 [] ∷ San.plain 0xA5 [] ∷ San.other (hex "2A") 0x04 [] ∷ srvName (text "_m.b") ∷ [];
+  rows =
+      row 1 2 3 0 ∷ row 2 5 3 1 ∷ row 6 8 3 2 ∷ row 7 11 3 3 ∷ row 8 14 3 4 ∷ row 3 17 2 5 ∷ row 4 19 2 6 ∷ row 5 21 2 7 ∷ row 0 23 9 8
+      ∷ row 9 32 20 9 ∷ [];
+}
+
+-- "in a subject 10 for a CN with tag 0C, 13 or 16, 11 for another CN, 12 otherwise"; "RDN index"
+abbrev pub subjectListed : Rows (Der.Member Subject.Attribute)
+subjectListed = record {
+  bytes = hex "30 22 31 0A 30 08 06 03 55 04 03 0C 01 61 31 14 30 08 06 03 55 04 03 14 01 62 30 08 06 03 55 04 0A 0C 01 63";
+  names =
+      attribute 0 Subject.cnOid 0x0C (text "a") ∷ attribute 1 Subject.cnOid 0x14 (text "b") ∷ attribute 1 (hex "55 04 0A") 0x0C (text "c") ∷ [];
+  rows = row 10 4 10 0 ∷ row 11 16 10 1 ∷ row 12 26 10 1 ∷ [];
+}
+
+-- "A subtree's row is its GeneralName." "0 permitted and 1 excluded"
+abbrev pub constraintsListed : Rows (Der.Member San.GeneralName)
+constraintsListed = record {
+  bytes = hex "30 30 A0 19 30 03 82 01 62 30 12 A0 10 06 08 2B 06 01 05 05 07 08 07 A0 04 16 02 5F 6D A1 13 30 11 A0 0F 06 08 2B 06 01 05 05 07 08 07 A0 03 16 01 62";
+  names = subtree 0 (San.plain 0x82 (text "b")) ∷ side 0 (text "_m") ∷ side 1 (text "b") ∷ [];
+  rows = row 2 6 3 0 ∷ row 9 11 18 0 ∷ row 9 33 17 1 ∷ [];
+}
+
+-- ---- listings
+
+-- what the table held before
+abbrev old : ℕ → Row
+old n = row n n n n
+
+-- "The answer is 0 and the count"; "Rows past the count .. stay"
+abbrev pub fits : Listing
+fits = record {
+  refusal = 3;
+  seen = listed (row 2 2 5 0 ∷ []);
+  lent = old 1 ∷ old 2 ∷ [];
+  answered = record { answer = 0; count = 1 };
+  table = row 2 2 5 0 ∷ old 2 ∷ [];
+}
+
+-- "8 with the count needed, given exactly when that exceeds the rows lent"
+abbrev pub tooShort : Listing
+tooShort = record {
+  refusal = 3;
+  seen = listed (row 2 2 5 0 ∷ row 2 7 5 1 ∷ []);
+  lent = old 1 ∷ [];
+  answered = record { answer = 8; count = 2 };
+  table = old 1 ∷ [];
+}
+
+-- "7, then 3, 4 or 5 (each with count 0)"; "all rows after a refusal, stay"
+abbrev pub long : Listing
+long = record { refusal = 4; seen = tooLong; lent = old 1 ∷ []; answered = record { answer = 7; count = 0 }; table = old 1 ∷ [] }
+
+abbrev pub unread : Listing
+unread = record { refusal = 5; seen = unreadable; lent = old 1 ∷ []; answered = record { answer = 5; count = 0 }; table = old 1 ∷ [] }
