@@ -6,12 +6,12 @@ use Rattle.rules.specs.Der
 use Rattle.rules.specs.San
 use Rattle.rules.specs.Subject
 use Rattle.rules.specs.Seen.{tooLong, unreadable, listed, seenRecords}
-use Rattle.rules.specs.Verdict.{outcomeOf}
+use Rattle.rules.specs.Verdict.{numbers, outcomeOf}
 use Rattle.rules.specs.declared.Outcome.{Outcome}
 use Rattle.rules.specs.declared.Row.{Row}
 use Rattle.rules.specs.declared.Verdict.{Verdict}
 use Rattle.rules.proofs.Text.{text, hex}
-use Rattle.rules.proofs.Holds.{Certificate, Rows, Listing, recordBytes, five, row}
+use Rattle.rules.proofs.Holds.{Certificate, Rows, Listing, recordBytes, row}
 use Rattle.rules.proofs.Marked.{s, sNames, j, jNames}
 
 -- ---- references
@@ -83,11 +83,11 @@ outcome c = outcomeOf (seenRecords (c .references)) (listed (c .sanNames)) (list
 
 -- "No SAN, J, CN `a.b`: 0 0 0 4 12."
 abbrev pub cnMatches : Certificate
-cnMatches = bySubject j jNames (five 0 0 0 4 12)
+cnMatches = bySubject j jNames (numbers 0 0 0 4 12)
 
 -- "With SAN `30 02 82 00`: answer 1."
 abbrev pub cnBlocked : Certificate
-cnBlocked = bySan (hex "30 02 82 00") (San.plain 0x82 [] ∷ []) cn (five 1 0 0 0 0)
+cnBlocked = bySan (hex "30 02 82 00") (San.plain 0x82 [] ∷ []) cn (numbers 1 0 0 0 0)
 
 -- "SAN `30 14 A0 12 06 08 2B 06 01 05 05 07 08 07 A0 06 16 04 5F 6D 2E 62`": the SRVName `_m.b`
 abbrev srvSan : List ℕ
@@ -98,13 +98,13 @@ srvNames = srvName (text "_m.b") ∷ []
 
 -- ".. SRV reference m, `b`: 0 0 0 2 20."
 abbrev pub srvMatches : Certificate
-srvMatches = bySan srvSan srvNames srv (five 0 0 0 2 20)
+srvMatches = bySan srvSan srvNames srv (numbers 0 0 0 2 20)
 
 -- "With constraints `30 16 A0 14 30 12 A0 10 06 08 2B 06 01 05 05 07 08 07 A0 04 16 02 5F 6D`: the same."
 abbrev pub srvPermitted : Certificate
 srvPermitted =
     constrained srvSan srvNames (hex "30 16 A0 14 30 12 A0 10 06 08 2B 06 01 05 05 07 08 07 A0 04 16 02 5F 6D")
-    (side 0 (text "_m") ∷ []) srv (five 0 0 0 2 20)
+    (side 0 (text "_m") ∷ []) srv (numbers 0 0 0 2 20)
 
 -- "With the last byte 6E: answer 2."
 abbrev permitsOther : List ℕ
@@ -114,19 +114,19 @@ abbrev permitsOtherNames : List (Der.Member San.GeneralName)
 permitsOtherNames = side 0 (text "_n") ∷ []
 
 abbrev pub srvBroken : Certificate
-srvBroken = constrained srvSan srvNames permitsOther permitsOtherNames srv (five 2 0 0 0 0)
+srvBroken = constrained srvSan srvNames permitsOther permitsOtherNames srv (numbers 2 0 0 0 0)
 
 -- "Letting a matching DNS-ID excuse a broken SRVName": `a.b` matches, and the SRVName behind it breaks the constraints
 abbrev pub notExcused : Certificate
 notExcused =
     constrained (hex "30 19 82 03 61 2E 62 A0 12 06 08 2B 06 01 05 05 07 08 07 A0 06 16 04 5F 6D 2E 62")
-    (San.plain 0x82 (text "a.b") ∷ srvNames) permitsOther permitsOtherNames dns (five 2 0 1 0 0)
+    (San.plain 0x82 (text "a.b") ∷ srvNames) permitsOther permitsOtherNames dns (numbers 2 0 1 0 0)
 
 -- "lie in no excluded SRVName subtree": `_m` is excluded
 abbrev pub srvExcluded : Certificate
 srvExcluded =
     constrained srvSan srvNames (hex "30 16 A1 14 30 12 A0 10 06 08 2B 06 01 05 05 07 08 07 A0 04 16 02 5F 6D")
-    (side 1 (text "_m") ∷ []) srv (five 2 0 0 0 0)
+    (side 1 (text "_m") ∷ []) srv (numbers 2 0 0 0 0)
 
 -- `_n` is excluded, and nothing is permitted
 abbrev excludesOther : List ℕ
@@ -137,56 +137,56 @@ excludesOtherNames = side 1 (text "_n") ∷ []
 
 -- "if any permitted SRVName subtree exists, lie in one": none does, so `_m.b` need not
 abbrev pub srvNotExcluded : Certificate
-srvNotExcluded = constrained srvSan srvNames excludesOther excludesOtherNames srv (five 0 0 0 2 20)
+srvNotExcluded = constrained srvSan srvNames excludesOther excludesOtherNames srv (numbers 0 0 0 2 20)
 
 -- "if the constraints hold any SRVName subtree, each presented SRVName must be an SRV-ID": `m` is none
 abbrev pub noSrvId : Certificate
 noSrvId =
     constrained (hex "30 11 A0 0F 06 08 2B 06 01 05 05 07 08 07 A0 03 16 01 6D") (srvName (text "m") ∷ []) excludesOther
-    excludesOtherNames srv (five 2 0 0 0 0)
+    excludesOtherNames srv (numbers 2 0 0 0 0)
 
 -- "Other forms in the constraints are read and passed over": the dNSName `b` is permitted, and `m` breaks nothing
 abbrev pub otherForm : Certificate
 otherForm =
     constrained (hex "30 11 A0 0F 06 08 2B 06 01 05 05 07 08 07 A0 03 16 01 6D") (srvName (text "m") ∷ [])
-    (hex "30 07 A0 05 30 03 82 01 62") (subtree 0 (San.plain 0x82 (text "b")) ∷ []) srv (five 1 0 0 0 0)
+    (hex "30 07 A0 05 30 03 82 01 62") (subtree 0 (San.plain 0x82 (text "b")) ∷ []) srv (numbers 1 0 0 0 0)
 
 -- "URI-ID: ..": the content `a://u@b:1/`
 abbrev pub uriMatched : Certificate
-uriMatched = bySan (hex "30 0C 86 0A 61 3A 2F 2F 75 40 62 3A 31 2F") (San.plain 0x86 (text "a://u@b:1/") ∷ []) uri (five 0 0 0 2 12)
+uriMatched = bySan (hex "30 0C 86 0A 61 3A 2F 2F 75 40 62 3A 31 2F") (San.plain 0x86 (text "a://u@b:1/") ∷ []) uri (numbers 0 0 0 2 12)
 
 -- "A reference matches only its own kind": the text `a.b`, as a URI
 abbrev pub otherKind : Certificate
-otherKind = bySan (hex "30 05 86 03 61 2E 62") (San.plain 0x86 (text "a.b") ∷ []) dns (five 1 0 0 0 0)
+otherKind = bySan (hex "30 05 86 03 61 2E 62") (San.plain 0x86 (text "a.b") ∷ []) dns (numbers 1 0 0 0 0)
 
 -- "Stopping at the first name instead of the lowest reference": the second name matches the first reference
 abbrev pub lowestReference : Certificate
 lowestReference =
     bySan (hex "30 0A 82 03 63 2E 64 82 03 61 2E 62") (San.plain 0x82 (text "c.d") ∷ San.plain 0x82 (text "a.b") ∷ [])
-    (dns ++ recordBytes 1 [] 63 (text "c.d") 250) (five 0 0 1 7 5)
+    (dns ++ recordBytes 1 [] 63 (text "c.d") 250) (numbers 0 0 1 7 5)
 
 -- "the witnessing pair": only the second reference matches
 abbrev pub secondReference : Certificate
-secondReference = bySan s sNames (recordBytes 1 [] 63 (text "c.d") 250 ++ dns) (five 0 1 0 2 5)
+secondReference = bySan s sNames (recordBytes 1 [] 63 (text "c.d") 250 ++ dns) (numbers 0 1 0 2 5)
 
 -- "each filled with zeros": the record's last byte is 1
 abbrev pub badFill : Certificate
-badFill = bySan s sNames (recordBytes 1 [] 63 (text "a.b") 249 ++ (1 ∷ [])) (five 6 0 0 0 0)
+badFill = bySan s sNames (recordBytes 1 [] 63 (text "a.b") 249 ++ (1 ∷ [])) (numbers 6 0 0 0 0)
 
 -- ---- the CN
 
 -- "CN references count only if the SAN has no entry tagged 82 or 86 and no SRVName, readable as a name or not."
 abbrev pub uriBlocks : Certificate
-uriBlocks = bySan (hex "30 03 86 01 61") (San.plain 0x86 (text "a") ∷ []) cn (five 1 0 0 0 0)
+uriBlocks = bySan (hex "30 03 86 01 61") (San.plain 0x86 (text "a") ∷ []) cn (numbers 1 0 0 0 0)
 
 abbrev pub srvBlocks : Certificate
-srvBlocks = bySan (hex "30 11 A0 0F 06 08 2B 06 01 05 05 07 08 07 A0 03 16 01 6D") (srvName (text "m") ∷ []) cn (five 1 0 0 0 0)
+srvBlocks = bySan (hex "30 11 A0 0F 06 08 2B 06 01 05 05 07 08 07 A0 03 16 01 6D") (srvName (text "m") ∷ []) cn (numbers 1 0 0 0 0)
 
 -- "Email or address entries don't block the CN", nor does another otherName
 abbrev pub othersPass : Certificate
 othersPass =
     bySan (hex "30 13 81 01 61 A0 08 06 01 2A A0 03 16 01 61 87 04 01 02 03 04")
-    (San.plain 0x81 (text "a") ∷ San.other (hex "2A") 0x16 (text "a") ∷ San.plain 0x87 (hex "01 02 03 04") ∷ []) cn (five 0 0 0 4 12)
+    (San.plain 0x81 (text "a") ∷ San.other (hex "2A") 0x16 (text "a") ∷ San.plain 0x87 (hex "01 02 03 04") ∷ []) cn (numbers 0 0 0 4 12)
 
 -- "tag 0C, 13 or 16": J with another tag
 abbrev pub cnTagged : ℕ → Verdict → Certificate
@@ -197,25 +197,25 @@ cnTagged tag numbers =
 abbrev pub twoCns : ℕ → Certificate
 twoCns tag =
     bySubject (hex "30 1A 31 18 30 0A 06 03 55 04 03 0C 03 61 2E 62 30 0A 06 03 55 04 03" ++ tag ∷ hex "03 61 2E 62")
-    (attribute 0 Subject.cnOid 0x0C (text "a.b") ∷ attribute 0 Subject.cnOid tag (text "a.b") ∷ []) (five 1 0 0 0 0)
+    (attribute 0 Subject.cnOid 0x0C (text "a.b") ∷ attribute 0 Subject.cnOid tag (text "a.b") ∷ []) (numbers 1 0 0 0 0)
 
 -- an attribute of another type beside it does not count
 abbrev pub cnAndOther : Certificate
 cnAndOther =
     bySubject (hex "30 18 31 16 30 08 06 03 55 04 0A 0C 01 78 30 0A 06 03 55 04 03 0C 03 61 2E 62")
-    (attribute 0 (hex "55 04 0A") 0x0C (text "x") ∷ attribute 0 Subject.cnOid 0x0C (text "a.b") ∷ []) (five 0 0 0 14 12)
+    (attribute 0 (hex "55 04 0A") 0x0C (text "x") ∷ attribute 0 Subject.cnOid 0x0C (text "a.b") ∷ []) (numbers 0 0 0 14 12)
 
 -- "the RDNs of the subject for a CN": two sets with one CN each, and the second is `a.b`
 abbrev pub secondSet : Certificate
 secondSet =
     bySubject (hex "30 1C 31 0C 30 0A 06 03 55 04 03 0C 03 63 2E 64 31 0C 30 0A 06 03 55 04 03 0C 03 61 2E 62")
-    (attribute 0 Subject.cnOid 0x0C (text "c.d") ∷ attribute 1 Subject.cnOid 0x0C (text "a.b") ∷ []) (five 0 0 1 18 12)
+    (attribute 0 Subject.cnOid 0x0C (text "c.d") ∷ attribute 1 Subject.cnOid 0x0C (text "a.b") ∷ []) (numbers 0 0 1 18 12)
 
 -- "Cutting a CN at a zero byte": the value `a.b`, a zero and `c` is no name
 abbrev pub cnNotCut : Certificate
 cnNotCut =
     bySubject (hex "30 10 31 0E 30 0C 06 03 55 04 03 0C 05 61 2E 62 00 63") (attribute 0 Subject.cnOid 0x0C (hex "61 2E 62 00 63") ∷ [])
-    (five 1 0 0 0 0)
+    (numbers 1 0 0 0 0)
 
 -- ---- rows
 

@@ -16,10 +16,11 @@ use Rattle.rules.specs.Seen
 use Rattle.rules.specs.Seen.{tooLong, unreadable, listed, sanInput, subjectInput, constraintsInput, Sees, seenRecords}
 use Rattle.rules.specs.Matching
 use Rattle.rules.specs.Verdict
+use Rattle.rules.specs.Verdict.{numbers}
 use Rattle.rules.specs.Listing
 use Rattle.rules.proofs.Text.{text, hex}
 use Rattle.rules.proofs.Test.{all-hold}
-use Rattle.rules.proofs.Holds.{Certificate, Example, subtree, dnsName, tested, written, verdict, refused, sanRows, subjectRows, constraintsRows, listing, All, recordBytes, five}
+use Rattle.rules.proofs.Holds.{Certificate, Example, subtree, dnsName, tested, written, verdict, refused, sanRows, subjectRows, constraintsRows, listing, All, recordBytes}
 use Rattle.rules.proofs.Joined.{dotted}
 use Rattle.rules.proofs.Certificates
 use Rattle.rules.proofs.Certificates.{attribute, side}
@@ -239,9 +240,9 @@ verdicts =
     ∷ verdict Certificates.uriBlocks
     ∷ verdict Certificates.srvBlocks
     ∷ verdict Certificates.othersPass
-    ∷ verdict (Certificates.cnTagged 0x13 (five 0 0 0 4 12))
-    ∷ verdict (Certificates.cnTagged 0x16 (five 0 0 0 4 12))
-    ∷ verdict (Certificates.cnTagged 0x14 (five 1 0 0 0 0))
+    ∷ verdict (Certificates.cnTagged 0x13 (numbers 0 0 0 4 12))
+    ∷ verdict (Certificates.cnTagged 0x16 (numbers 0 0 0 4 12))
+    ∷ verdict (Certificates.cnTagged 0x14 (numbers 1 0 0 0 0))
     ∷ verdict (Certificates.twoCns 0x13)
     ∷ verdict (Certificates.twoCns 0x14)
     ∷ verdict Certificates.cnAndOther

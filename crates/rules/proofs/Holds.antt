@@ -11,16 +11,13 @@ use Rattle.rules.specs.Der.{Member}
 use Rattle.rules.specs.San.{GeneralName}
 use Rattle.rules.specs.Subject.{Attribute}
 use Rattle.rules.specs.Seen.{Seen, listed, Input, sanInput, subjectInput, constraintsInput, Sees, seenRecords}
-use Rattle.rules.specs.Verdict.{verdictOf}
+use Rattle.rules.specs.Verdict.{numbers, verdictOf}
 use Rattle.rules.specs.Listing.{listedOf, tableAfter}
 use Rattle.rules.specs.declared.Row.{Row}
 use Rattle.rules.specs.declared.Listed.{Listed}
 use Rattle.rules.specs.declared.Verdict.{Verdict}
 
--- a verdict's five numbers, and a row's four
-abbrev pub five : ℕ → ℕ → ℕ → ℕ → ℕ → Verdict
-five a r p s l = record { answer = a; reference = r; presented = p; start = s; length = l }
-
+-- a row's four numbers
 abbrev pub row : ℕ → ℕ → ℕ → ℕ → Row
 row k s l g = record { kind = k; start = s; length = l; group = g }
 
@@ -86,7 +83,7 @@ Holds (verdict c) =
     × Sees subjectInput (c .subject) (listed (c .subjectNames))
     × Sees constraintsInput (c .constraints) (listed (c .constraintsNames))
     × (verdictOf (seenRecords (c .references)) (listed (c .sanNames)) (listed (c .subjectNames)) (listed (c .constraintsNames)) ≡ c .numbers)
-Holds (refused references san subject constraints answer) = verdictOf references san subject constraints ≡ five answer 0 0 0 0
+Holds (refused references san subject constraints answer) = verdictOf references san subject constraints ≡ numbers answer 0 0 0 0
 Holds (sanRows r) = HasRows sanInput r
 Holds (subjectRows r) = HasRows subjectInput r
 Holds (constraintsRows r) = HasRows constraintsInput r

@@ -11,9 +11,10 @@ use Rattle.rules.specs.Subject
 use Rattle.rules.specs.Seen
 use Rattle.rules.specs.Matching
 use Rattle.rules.specs.Verdict
+use Rattle.rules.specs.Verdict.{numbers}
 use Rattle.rules.proofs.Text.{text}
 use Rattle.rules.proofs.Test.{all-hold}
-use Rattle.rules.proofs.Holds.{Certificate, Example, subtree, dnsName, noDnsId, verdict, All, recordBytes, five}
+use Rattle.rules.proofs.Holds.{Certificate, Example, subtree, dnsName, noDnsId, verdict, All, recordBytes}
 
 -- "S is `30 05 82 03 61 2E 62`; J is `30 0E 31 0C 30 0A 06 03 55 04 03 0C 03 61 2E 62`."
 abbrev pub s : List ℕ
@@ -37,7 +38,7 @@ p16 = record {
   constraints = [];
   constraintsNames = [];
   references = recordBytes 1 [] 63 (text "A.B") 250;
-  numbers = five 0 0 0 2 5;
+  numbers = numbers 0 0 0 2 5;
 }
 
 abbrev pub table : List Example

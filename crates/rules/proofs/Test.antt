@@ -9,13 +9,13 @@ use lib.Dec.{T, eqb, leb, eqb→eq, leb→le}
 use Rattle.rules.specs.Bytes.{some?, all, same}
 use Rattle.rules.specs.Names.{restriction, srvId, inSubtree, dnsId, dnsMatches}
 use Rattle.rules.specs.Seen.{Input, sanInput, subjectInput, constraintsInput, listed, Reads, Sees, seenRecords}
-use Rattle.rules.specs.Verdict.{verdictOf}
+use Rattle.rules.specs.Verdict.{numbers, verdictOf}
 use Rattle.rules.specs.Listing.{listedOf, tableAfter}
 use Rattle.rules.specs.declared.Row.{Row}
 use Rattle.rules.specs.declared.Listed.{Listed}
 use Rattle.rules.specs.declared.Verdict.{Verdict}
 use Rattle.rules.proofs.Cases.{and-parts}
-use Rattle.rules.proofs.Holds.{Certificate, Rows, Listing, Example, subtree, dnsName, noDnsId, tested, written, verdict, refused, sanRows, subjectRows, constraintsRows, listing, five, HasRows, Holds, All}
+use Rattle.rules.proofs.Holds.{Certificate, Rows, Listing, Example, subtree, dnsName, noDnsId, tested, written, verdict, refused, sanRows, subjectRows, constraintsRows, listing, HasRows, Holds, All}
 
 -- ---- equalities, tested
 
@@ -160,7 +160,7 @@ passes (tested test passed) = sameBool test passed
 passes (written bytes shown) = same bytes shown
 passes (verdict c) = seen c && judgedRight c
 passes (refused references san subject constraints answer) =
-    sameVerdict (verdictOf references san subject constraints) (five answer 0 0 0 0)
+    sameVerdict (verdictOf references san subject constraints) (numbers answer 0 0 0 0)
 passes (sanRows r) = rowsRight sanInput r
 passes (subjectRows r) = rowsRight subjectInput r
 passes (constraintsRows r) = rowsRight constraintsInput r
@@ -181,7 +181,7 @@ holds (noDnsId presented) h = bool-is (dnsId presented) false h
 holds (tested test passed) h = bool-is test passed h
 holds (written bytes shown) h = bytes-are bytes shown h
 holds (refused references san subject constraints answer) h =
-    verdict-is (verdictOf references san subject constraints) (five answer 0 0 0 0) h
+    verdict-is (verdictOf references san subject constraints) (numbers answer 0 0 0 0) h
 holds (sanRows r) h = has-rows sanInput r h
 holds (subjectRows r) h = has-rows subjectInput r h
 holds (constraintsRows r) h = has-rows constraintsInput r h
