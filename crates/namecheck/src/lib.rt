@@ -7,6 +7,8 @@ ghost use Prim.Native.Nat.{_+_, _≤_};
 ghost use mathlib.Core.Path.{_≡_};
 ghost use lib.ListN.{length};
 ghost use Rattle.io.specs.Counts.{Counts};
+ghost use Rattle.reading.specs.Calls.{inputs, verdictOn};
+ghost use Rattle.namecheck.specs.Status.{statusOf};
 
 // "has at most 512"
 const MOST_ROWS: usize = 512;
@@ -144,7 +146,7 @@ fn show_rows(san: &[u8]) {
 
 // The exit status of a verdict: 0 for a match and for nothing else.
 fn status(v: rules::Verdict) -> u32
-    ensures { λ r. ⌜ (v .answer ≡ 0 → r ≡ 0) × (r ≡ 0 → v .answer ≡ 0) ⌝ }
+    ensures { λ r. ⌜ r ≡ statusOf v ⌝ }
 {
     if v.answer == rules::MATCH {
         return MATCHED;
@@ -152,7 +154,10 @@ fn status(v: rules::Verdict) -> u32
     OTHERWISE
 }
 
-fn judge(san: &[u8], subject: &[u8], constraints: &[u8], references: &[u8]) -> u32 {
+// Writes what is judged; the exit status is that of the verdict on these four strings.
+fn judge(san: &[u8], subject: &[u8], constraints: &[u8], references: &[u8]) -> u32
+    ensures { λ r. ⌜ r ≡ statusOf (verdictOn (inputs (now (san .entry)) (now (subject .entry)) (now (constraints .entry)) (now (references .entry)))) ⌝ }
+{
     let v = verdict::verdict(san, subject, constraints, references);
     show_verdict(v);
     show_rows(san);
