@@ -50,8 +50,8 @@ fn idle_attribute() -> Node {
     attribute(&[0x01], bytes(0x0C, b""))
 }
 
-/// A name of each kind that matches, that keeps a CN from counting, or that
-/// breaks the constraints.
+/// A name of each kind that matches, that keeps a CN from counting, that makes
+/// the SAN unreadable, or that breaks the constraints.
 fn entries(take: Taker, before: usize) {
     let narrow = constraints(vec![subtree(srv_name(b"_n"))], Vec::new()).write();
     let names = [
@@ -63,6 +63,9 @@ fn entries(take: Taker, before: usize) {
         (uri_name(b""), CN, Vec::new()),
         (email(b""), CN, Vec::new()),
         (email(&[b'e'; 300]), CN, Vec::new()),
+        (email(b"a@\x80"), DNS, Vec::new()),
+        (dns_name(b"a.\x80"), DNS, Vec::new()),
+        (uri_name(b"m://\x80"), URI, Vec::new()),
         (srv_name(b"_m.b"), SRV, narrow),
     ];
     for (name, kind, constraints) in names {
