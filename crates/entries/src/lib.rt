@@ -202,7 +202,7 @@ pub fn subtree_shape(s: &[u8], tag: u8, start: usize, end: usize) -> Name
     name_shape(s, form, from, end)
 }
 
-// "every byte below 128": the bytes that are not are counted, without a branch, which the compiler does many at a time.
+// "every byte below 128": the bytes that are not are counted, with no branch on a byte. The compiler takes two bytes to a vector.
 fn is_ascii(s: &[u8], start: usize, end: usize) -> bool
     requires { ⌜ start ≤ end ⌝ }
     requires { ⌜ end ≤ length (now s) ⌝ }

@@ -25,7 +25,7 @@ ghost use Rattle.rules.specs.Numbers.{recordSize};
 ghost use Rattle.rules.specs.Records as records;
 ghost use Rattle.records.specs.Small.{SmallShown};
 
-// Whether every byte is zero: they are added up, without a branch, which the compiler does many at a time.
+// Whether every byte is zero: they are added up, with no branch on a byte. The compiler makes no vectors of this loop.
 fn all_zero(s: &[u8]) -> bool
     requires { ⌜ length (now s) ≤ recordSize ⌝ }
     ensures { λ r. ⌜ r ≡ all (λ b. eqb b 0) (now (s .entry)) ⌝ }
