@@ -10,7 +10,8 @@ use borrow.Author.Tests.{eq-eqb, ne-eqb, le-leb, lt-leb, lt-ltb, le-ltb, not-tru
 use Rattle.octets.proofs.Cases.{eqb-swap}
 use Rattle.octets.proofs.Parts.{rest-is}
 use Rattle.octets.proofs.Cut as cut
-use Rattle.rules.specs.Bytes.{begins, before}
+use Rattle.names.proofs.Labels.{two-labels}
+use Rattle.rules.specs.Bytes.{any, begins, before}
 use Rattle.rules.specs.Names.{is, star, dot, domain, sameText, dnsId, dnsMatches}
 use Rattle.dns.specs.Wildcard.{wildDomain, pastFirst}
 use Rattle.dns.proofs.Matching.{wild, wild-is, wild-id, plain-id, wild-matches, plain-matches}
@@ -41,9 +42,14 @@ module _ (t : List ℕ) where
   unfolding wildDomain
   wild-domain-long h = simp (lt-leb (length t) 251 h)
 
-  pub wild-domain-is : length t ≤ 251 → (r : Bool) → r ≡ domain t → r ≡ wildDomain t
-  unfolding wildDomain
-  wild-domain-is h r e = rw (le-leb (length t) 251 h) e
+  module _ (good : Bool) (is-good : good ≡ domain t) where
+    pub wild-domain-bad : length t ≤ 251 → not good ≡ true → false ≡ wildDomain t
+    unfolding wildDomain
+    wild-domain-bad h e = rw (le-leb (length t) 251 h, ← is-good, not-true good e)
+
+    pub wild-domain-is : length t ≤ 251 → not good ≡ false → (r : Bool) → r ≡ any (is dot) t → r ≡ wildDomain t
+    unfolding wildDomain
+    wild-domain-is h e r f = rw (le-leb (length t) 251 h, ← is-good, not-false good e, two-labels t) f
 
 -- ---- past_first
 
@@ -98,6 +104,7 @@ pub ruleset laws = (
   wild-first,
   wild-second,
   wild-domain-long,
+  wild-domain-bad,
   wild-domain-is,
   no-dot,
   past-dot,

@@ -18,14 +18,19 @@ fn begins_wild(s: &[u8]) -> bool
     s[1] == 0x2E
 }
 
-// Whether t is a domain that may stand past "*.": "at most 253 bytes in all".
+// Whether t is a domain that may stand past "*.": "at most 253 bytes in all", and "a wildcard needs at least two labels after it",
+// with a dot between them.
 fn wild_domain(t: &[u8]) -> bool
     ensures { λ r. ⌜ r ≡ wildDomain (now (t .entry)) ⌝ }
 {
     if 251 < t.len() {
         return false;
     }
-    names::domain(t)
+    let good = names::domain(t);
+    if !good {
+        return false;
+    }
+    octets::has(t, 0x2E)
 }
 
 // Whether the reference's labels past its first are those of t.

@@ -3,8 +3,9 @@ use Prim.Native.Nat.{ℕ, _+_, _<_, _≤_}
 use mathlib.Core.Path.{_≡_}
 use mathlib.Core.List.{List}
 use lib.ListN.{length, getD}
+use lib.Dec.{ltb}
 use borrow.Author.Tests.{eq-eqb, ne-eqb}
-use Rattle.rules.specs.Bytes.{before}
+use Rattle.rules.specs.Bytes.{any, before}
 use Rattle.rules.specs.Names.{is}
 use Rattle.octets.proofs.Classes
 use Rattle.octets.proofs.Compare
@@ -25,6 +26,11 @@ module _ (s : List ℕ) (b i : ℕ) (inv : Cut.Cutting (is b) s i) where
 
   pub find-end : length s ≤ i → i ≡ length (before (is b) s)
   find-end h = Cut.cut-end _ s i inv h
+
+-- ---- has
+
+pub has-is : (s : List ℕ) (b first : ℕ) → first ≡ length (before (is b) s) → ltb first (length s) ≡ any (is b) s
+has-is s b first e = rw (Cut.any-is (is b) s, ← e)
 
 pub ruleset laws = (
   Classes.lower-under,
@@ -55,5 +61,6 @@ pub ruleset laws = (
   find-here,
   find-next,
   find-end,
+  has-is,
   Parts.rest-is,
 )

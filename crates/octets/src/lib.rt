@@ -2,7 +2,7 @@
 ghost use mathlib.Core.Path.{_≡_};
 ghost use Prim.Native.Nat.{_-_, _<_, _≤_};
 ghost use lib.ListN.{length, drop};
-ghost use Rattle.rules.specs.Bytes.{same, before};
+ghost use Rattle.rules.specs.Bytes.{any, same, before};
 ghost use Rattle.rules.specs.Names.{is, letter, digit, letterDigitHyphen, schemeByte, sameText};
 ghost use Rattle.rules.specs.Names as names;
 
@@ -128,6 +128,14 @@ pub fn find(s: &[u8], b: u8) -> usize
         at += 1;
     }
     at
+}
+
+// Whether s has a byte b.
+pub fn has(s: &[u8], b: u8) -> bool
+    ensures { λ r. ⌜ r ≡ any (is b) (now (s .entry)) ⌝ }
+{
+    let first = find(s, b);
+    first < s.len()
 }
 
 // The bytes from a place on.

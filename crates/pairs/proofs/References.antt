@@ -12,7 +12,7 @@ use borrow.Author.Tests.{ne-eqb}
 use Rattle.octets.proofs.Cases.{by-cases}
 use Rattle.rules.specs.Bytes.{part, some?, all}
 use Rattle.rules.specs.Numbers.{recordSize, serviceLengthAt, domainLengthAt, serviceAt, serviceSize, domainAt, domainSize}
-use Rattle.rules.specs.Names.{dnsMatches, srvMatches, uriMatches}
+use Rattle.rules.specs.Names.{domain, dnsMatches, srvMatches, uriMatches}
 use Rattle.rules.specs.Records.{referenceOf, filled, goodService, goodReference, goodRecord, recordsOf, goodRecords}
 use Rattle.rules.specs.Matching.{textMatches}
 use Rattle.records.proofs.Split.{count-is, record-at, each-good, byte-at}
@@ -102,7 +102,8 @@ module _ (b : List ℕ) (i : ℕ) (h : i < length b / recordSize) where
     unfolding goodReference goodService referenceAt
     dns-or-cn e f =
         let k = referenceOf rec .kind in
-        let w = and-parts (goodService k (referenceOf rec .service)) _ (parts .1 .1) .0 in
+        let v = and-parts (goodService k (referenceOf rec .service) && domain (referenceOf rec .domain)) _ (parts .1 .1) .0 in
+        let w = and-parts (goodService k (referenceOf rec .service)) _ v .0 in
         by-cases (eqb k 1 || eqb k 4) (λ q. q) (λ q. absurd (rw (q, ne-eqb k 2 e, ne-eqb k 3 f) at w))
 
   -- ---- a text held against the reference

@@ -11,9 +11,10 @@ use lib.Seq.{drop-cons, drop-drop, length-take-le}
 use lib.Dec.{T, eqb, leb, ltb}
 use borrow.Author.Tests.{leb-true, eq-eqb, ne-eqb, le-leb, lt-leb, lt-ltb, le-ltb, not-true, not-false}
 use Rattle.octets.proofs.Parts.{rest-is}
-use Rattle.rules.specs.Bytes.{part, some?, all}
+use Rattle.names.proofs.Labels.{two-labels}
+use Rattle.rules.specs.Bytes.{part, some?, all, any}
 use Rattle.rules.specs.Numbers.{recordSize, serviceLengthAt, domainLengthAt, serviceAt, serviceSize, domainAt, domainSize, recordsLimit}
-use Rattle.rules.specs.Names.{service, scheme, domain}
+use Rattle.rules.specs.Names.{is, dot, service, scheme, domain}
 use Rattle.rules.specs.Records.{referenceOf, filled, goodService, goodReference, goodRecord, split, recordsOf, goodRecords, noRecord, shown}
 use Rattle.rules.specs.declared.Shown.{Shown}
 use Rattle.records.specs.Small.{SmallShown}
@@ -135,11 +136,20 @@ module _ (b : List ℕ) where
         record-service h =
             simp (eq-eqb (getD b 1 0) 0 zero1, ← n-is, ← m-is, ← f-is, not-false f d, ← g-is, not-false g e, service-is, not-true t h)
 
-        pub record-domain : not t ≡ false → (r : Bool) → r ≡ domain (take (domainAt + m - domainAt) (drop domainAt b)) → r ≡ goodRecord b
-        unfolding goodRecord part goodReference referenceOf
-        record-domain h r r-is =
-            r-is ∙ rw add-sub-cancel-left
-            (simp (eq-eqb (getD b 1 0) 0 zero1, ← n-is, ← m-is, ← f-is, not-false f d, ← g-is, not-false g e, service-is, not-false t h))
+        module _ (h : not t ≡ false) (u : Bool) (u-is : u ≡ domain (take (domainAt + m - domainAt) (drop domainAt b))) where
+          domain-is : domain (take m (drop domainAt b)) ≡ u
+          domain-is = sym (rw (add-sub-cancel-left) at u-is)
+
+          pub record-domain : not u ≡ true → false ≡ goodRecord b
+          unfolding goodRecord part goodReference referenceOf
+          record-domain k =
+              simp (eq-eqb (getD b 1 0) 0 zero1, ← n-is, ← m-is, ← f-is, not-false f d, ← g-is, not-false g e, service-is, not-false t h, domain-is, not-true u k)
+
+          pub record-labels : not u ≡ false → (r : Bool) → r ≡ any (is dot) (take (domainAt + m - domainAt) (drop domainAt b)) → r ≡ goodRecord b
+          unfolding goodRecord part goodReference referenceOf
+          record-labels k r r-is =
+              r-is ∙ rw add-sub-cancel-left
+              (simp (eq-eqb (getD b 1 0) 0 zero1, ← n-is, ← m-is, ← f-is, not-false f d, ← g-is, not-false g e, service-is, not-false t h, domain-is, not-false u k, two-labels))
 
 -- ---- good_records
 
@@ -265,6 +275,7 @@ pub ruleset laws = (
   record-domain-fill,
   record-service,
   record-domain,
+  record-labels,
   records-none,
   records-uneven,
   left-begin,

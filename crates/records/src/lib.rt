@@ -69,7 +69,7 @@ fn good_service(kind: u8, s: &[u8]) -> bool
     false
 }
 
-// Whether the 320 bytes of one record are good.
+// Whether the 320 bytes of one record are good. "a reference record whose domain has one label is refused with 6"
 fn good_record(b: &[u8]) -> bool
     requires { ⌜ length (now b) ≡ recordSize ⌝ }
     ensures { λ r. ⌜ r ≡ records.goodRecord (now (b .entry)) ⌝ }
@@ -77,21 +77,27 @@ fn good_record(b: &[u8]) -> bool
     if b[1] != 0 {
         return false;
     }
-    let service = wide(b[SERVICE_LENGTH_AT]);
-    let fits = filled(&b[SERVICE_AT..SERVICE_AT + SERVICE_SIZE], service);
+    let n = wide(b[SERVICE_LENGTH_AT]);
+    let fits = filled(&b[SERVICE_AT..SERVICE_AT + SERVICE_SIZE], n);
     if !fits {
         return false;
     }
-    let domain = wide(b[DOMAIN_LENGTH_AT]);
-    let fits = filled(&b[DOMAIN_AT..DOMAIN_AT + DOMAIN_SIZE], domain);
+    let m = wide(b[DOMAIN_LENGTH_AT]);
+    let fits = filled(&b[DOMAIN_AT..DOMAIN_AT + DOMAIN_SIZE], m);
     if !fits {
         return false;
     }
-    let good = good_service(b[0], &b[SERVICE_AT..SERVICE_AT + service]);
+    let service = &b[SERVICE_AT..SERVICE_AT + n];
+    let good = good_service(b[0], service);
     if !good {
         return false;
     }
-    names::domain(&b[DOMAIN_AT..DOMAIN_AT + domain])
+    let domain = &b[DOMAIN_AT..DOMAIN_AT + m];
+    let good = names::domain(domain);
+    if !good {
+        return false;
+    }
+    octets::has(domain, 0x2E)
 }
 
 // "Anything else, a total of 0 bytes, or one not divisible by 320 is answer 6."

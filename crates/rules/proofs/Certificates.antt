@@ -1,7 +1,8 @@
--- The certificates, rows and listings of the desk examples: what document 01 writes out, and the smallest ones that tell its other
--- sentences apart.
-use Prim.Native.Nat.{ℕ}
+-- The certificates, rows and listings of the desk examples: what documents 01 and 02 write out, and the smallest ones that tell
+-- their other sentences apart.
+use Prim.Native.Nat.{ℕ, _+_}
 use mathlib.Core.List.{List, [], _∷_, _++_}
+use lib.ListN.{replicate}
 use Rattle.rules.specs.Der
 use Rattle.rules.specs.San
 use Rattle.rules.specs.Subject
@@ -16,16 +17,16 @@ use Rattle.rules.proofs.Marked.{s, sNames, j, jNames}
 
 -- ---- references
 
-abbrev dns : List ℕ
+abbrev pub dns : List ℕ
 dns = recordBytes 1 [] 63 (text "a.b") 250
 
 abbrev srv : List ℕ
-srv = recordBytes 2 (text "m") 62 (text "b") 252
+srv = recordBytes 2 (text "m") 62 (text "b.c") 250
 
 abbrev uri : List ℕ
-uri = recordBytes 3 (text "a") 62 (text "b") 252
+uri = recordBytes 3 (text "a") 62 (text "b.c") 250
 
-abbrev cn : List ℕ
+abbrev pub cn : List ℕ
 cn = recordBytes 4 [] 63 (text "a.b") 250
 
 -- ---- names
@@ -65,15 +66,15 @@ abbrev bySan : List ℕ → List San.GeneralName → List ℕ → Verdict → Ce
 bySan san names references numbers = constrained san names [] [] references numbers
 
 -- no SAN: the subject decides
-abbrev bySubject : List ℕ → List (Der.Member Subject.Attribute) → Verdict → Certificate
-bySubject subject names numbers = record {
+abbrev bySubject : List ℕ → List (Der.Member Subject.Attribute) → List ℕ → Verdict → Certificate
+bySubject subject names references numbers = record {
   san = [];
   sanNames = [];
   subject = subject;
   subjectNames = names;
   constraints = [];
   constraintsNames = [];
-  references = cn;
+  references = references;
   numbers = numbers;
 }
 
@@ -83,28 +84,34 @@ outcome c = outcomeOf (seenRecords (c .references)) (listed (c .sanNames)) (list
 
 -- "No SAN, J, CN `a.b`: 0 0 0 4 12."
 abbrev pub cnMatches : Certificate
-cnMatches = bySubject j jNames (numbers 0 0 0 4 12)
+cnMatches = bySubject j jNames cn (numbers 0 0 0 4 12)
 
 -- "With SAN `30 02 82 00`: answer 1."
 abbrev pub cnBlocked : Certificate
 cnBlocked = bySan (hex "30 02 82 00") (San.plain 0x82 [] ∷ []) cn (numbers 1 0 0 0 0)
 
 -- "SAN `30 14 A0 12 06 08 2B 06 01 05 05 07 08 07 A0 06 16 04 5F 6D 2E 62`": the SRVName `_m.b`
+abbrev oneLabelSan : List ℕ
+oneLabelSan = hex "30 14 A0 12 06 08 2B 06 01 05 05 07 08 07 A0 06 16 04 5F 6D 2E 62"
+
+abbrev oneLabelNames : List San.GeneralName
+oneLabelNames = srvName (text "_m.b") ∷ []
+
+-- 1/13: "the m, `b` example of 01 must be rerun with reference and name `b.c`": the SRVName `_m.b.c`
 abbrev srvSan : List ℕ
-srvSan = hex "30 14 A0 12 06 08 2B 06 01 05 05 07 08 07 A0 06 16 04 5F 6D 2E 62"
+srvSan = hex "30 16 A0 14 06 08 2B 06 01 05 05 07 08 07 A0 08 16 06 5F 6D 2E 62 2E 63"
 
 abbrev srvNames : List San.GeneralName
-srvNames = srvName (text "_m.b") ∷ []
+srvNames = srvName (text "_m.b.c") ∷ []
 
--- ".. SRV reference m, `b`: 0 0 0 2 20."
 abbrev pub srvMatches : Certificate
-srvMatches = bySan srvSan srvNames srv (numbers 0 0 0 2 20)
+srvMatches = bySan srvSan srvNames srv (numbers 0 0 0 2 22)
 
 -- "With constraints `30 16 A0 14 30 12 A0 10 06 08 2B 06 01 05 05 07 08 07 A0 04 16 02 5F 6D`: the same."
 abbrev pub srvPermitted : Certificate
 srvPermitted =
     constrained srvSan srvNames (hex "30 16 A0 14 30 12 A0 10 06 08 2B 06 01 05 05 07 08 07 A0 04 16 02 5F 6D")
-    (side 0 (text "_m") ∷ []) srv (numbers 0 0 0 2 20)
+    (side 0 (text "_m") ∷ []) srv (numbers 0 0 0 2 22)
 
 -- "With the last byte 6E: answer 2."
 abbrev permitsOther : List ℕ
@@ -119,7 +126,7 @@ srvBroken = constrained srvSan srvNames permitsOther permitsOtherNames srv (numb
 -- "Letting a matching DNS-ID excuse a broken SRVName": `a.b` matches, and the SRVName behind it breaks the constraints
 abbrev pub notExcused : Certificate
 notExcused =
-    constrained (hex "30 19 82 03 61 2E 62 A0 12 06 08 2B 06 01 05 05 07 08 07 A0 06 16 04 5F 6D 2E 62")
+    constrained (hex "30 1B 82 03 61 2E 62 A0 14 06 08 2B 06 01 05 05 07 08 07 A0 08 16 06 5F 6D 2E 62 2E 63")
     (San.plain 0x82 (text "a.b") ∷ srvNames) permitsOther permitsOtherNames dns (numbers 2 0 1 0 0)
 
 -- "lie in no excluded SRVName subtree": `_m` is excluded
@@ -135,9 +142,9 @@ excludesOther = hex "30 16 A1 14 30 12 A0 10 06 08 2B 06 01 05 05 07 08 07 A0 04
 abbrev excludesOtherNames : List (Der.Member San.GeneralName)
 excludesOtherNames = side 1 (text "_n") ∷ []
 
--- "if any permitted SRVName subtree exists, lie in one": none does, so `_m.b` need not
+-- "if any permitted SRVName subtree exists, lie in one": none does, so `_m.b.c` need not
 abbrev pub srvNotExcluded : Certificate
-srvNotExcluded = constrained srvSan srvNames excludesOther excludesOtherNames srv (numbers 0 0 0 2 20)
+srvNotExcluded = constrained srvSan srvNames excludesOther excludesOtherNames srv (numbers 0 0 0 2 22)
 
 -- "if the constraints hold any SRVName subtree, each presented SRVName must be an SRV-ID": `m` is none
 abbrev pub noSrvId : Certificate
@@ -151,9 +158,10 @@ otherForm =
     constrained (hex "30 11 A0 0F 06 08 2B 06 01 05 05 07 08 07 A0 03 16 01 6D") (srvName (text "m") ∷ [])
     (hex "30 07 A0 05 30 03 82 01 62") (subtree 0 (San.plain 0x82 (text "b")) ∷ []) srv (numbers 1 0 0 0 0)
 
--- "URI-ID: ..": the content `a://u@b:1/`
+-- "URI-ID: ..": the content `a://u@b.c:1/`
 abbrev pub uriMatched : Certificate
-uriMatched = bySan (hex "30 0C 86 0A 61 3A 2F 2F 75 40 62 3A 31 2F") (San.plain 0x86 (text "a://u@b:1/") ∷ []) uri (numbers 0 0 0 2 12)
+uriMatched =
+    bySan (hex "30 0E 86 0C 61 3A 2F 2F 75 40 62 2E 63 3A 31 2F") (San.plain 0x86 (text "a://u@b.c:1/") ∷ []) uri (numbers 0 0 0 2 14)
 
 -- "A reference matches only its own kind": the text `a.b`, as a URI
 abbrev pub otherKind : Certificate
@@ -191,31 +199,67 @@ othersPass =
 -- "tag 0C, 13 or 16": J with another tag
 abbrev pub cnTagged : ℕ → Verdict → Certificate
 cnTagged tag numbers =
-    bySubject (hex "30 0E 31 0C 30 0A 06 03 55 04 03" ++ tag ∷ hex "03 61 2E 62") (attribute 0 Subject.cnOid tag (text "a.b") ∷ []) numbers
+    bySubject (hex "30 0E 31 0C 30 0A 06 03 55 04 03" ++ tag ∷ hex "03 61 2E 62") (attribute 0 Subject.cnOid tag (text "a.b") ∷ []) cn numbers
 
 -- "in a set that has exactly one CN attribute, whatever the tags": this set has two, of which the second has any tag
 abbrev pub twoCns : ℕ → Certificate
 twoCns tag =
     bySubject (hex "30 1A 31 18 30 0A 06 03 55 04 03 0C 03 61 2E 62 30 0A 06 03 55 04 03" ++ tag ∷ hex "03 61 2E 62")
-    (attribute 0 Subject.cnOid 0x0C (text "a.b") ∷ attribute 0 Subject.cnOid tag (text "a.b") ∷ []) (numbers 1 0 0 0 0)
+    (attribute 0 Subject.cnOid 0x0C (text "a.b") ∷ attribute 0 Subject.cnOid tag (text "a.b") ∷ []) cn (numbers 1 0 0 0 0)
 
 -- an attribute of another type beside it does not count
 abbrev pub cnAndOther : Certificate
 cnAndOther =
     bySubject (hex "30 18 31 16 30 08 06 03 55 04 0A 0C 01 78 30 0A 06 03 55 04 03 0C 03 61 2E 62")
-    (attribute 0 (hex "55 04 0A") 0x0C (text "x") ∷ attribute 0 Subject.cnOid 0x0C (text "a.b") ∷ []) (numbers 0 0 0 14 12)
+    (attribute 0 (hex "55 04 0A") 0x0C (text "x") ∷ attribute 0 Subject.cnOid 0x0C (text "a.b") ∷ []) cn (numbers 0 0 0 14 12)
 
 -- "the RDNs of the subject for a CN": two sets with one CN each, and the second is `a.b`
 abbrev pub secondSet : Certificate
 secondSet =
     bySubject (hex "30 1C 31 0C 30 0A 06 03 55 04 03 0C 03 63 2E 64 31 0C 30 0A 06 03 55 04 03 0C 03 61 2E 62")
-    (attribute 0 Subject.cnOid 0x0C (text "c.d") ∷ attribute 1 Subject.cnOid 0x0C (text "a.b") ∷ []) (numbers 0 0 1 18 12)
+    (attribute 0 Subject.cnOid 0x0C (text "c.d") ∷ attribute 1 Subject.cnOid 0x0C (text "a.b") ∷ []) cn (numbers 0 0 1 18 12)
 
 -- "Cutting a CN at a zero byte": the value `a.b`, a zero and `c` is no name
 abbrev pub cnNotCut : Certificate
 cnNotCut =
     bySubject (hex "30 10 31 0E 30 0C 06 03 55 04 03 0C 05 61 2E 62 00 63") (attribute 0 Subject.cnOid 0x0C (hex "61 2E 62 00 63") ∷ [])
-    (numbers 1 0 0 0 0)
+    cn (numbers 1 0 0 0 0)
+
+-- ---- 1/13: one-label names
+
+-- "a wildcard needs at least two labels after it, in DNS-ID": `*.b` and `*.b.c`
+abbrev pub wildcardOver1 : List ℕ → Certificate
+wildcardOver1 references = bySan (hex "30 05 82 03 2A 2E 62") (San.plain 0x82 (text "*.b") ∷ []) references (numbers 1 0 0 0 0)
+
+abbrev pub wildcardOver2 : List ℕ → Verdict → Certificate
+wildcardOver2 references numbers =
+    bySan (hex "30 07 82 05 2A 2E 62 2E 63") (San.plain 0x82 (text "*.b.c") ∷ []) references numbers
+
+-- "and CN-ID"
+abbrev pub cnOver1 : Certificate
+cnOver1 =
+    bySubject (hex "30 0E 31 0C 30 0A 06 03 55 04 03 0C 03 2A 2E 62") (attribute 0 Subject.cnOid 0x0C (text "*.b") ∷ []) cn (numbers 1 0 0 0 0)
+
+abbrev pub cnOver2 : Certificate
+cnOver2 =
+    bySubject (hex "30 10 31 0E 30 0C 06 03 55 04 03 0C 05 2A 2E 62 2E 63") (attribute 0 Subject.cnOid 0x0C (text "*.b.c") ∷ [])
+    (recordBytes 4 [] 63 (text "a.b.c") 248) (numbers 0 0 0 4 14)
+
+-- "a reference record whose domain has one label is refused with 6": m, `b`
+abbrev pub oneLabelRecord : Certificate
+oneLabelRecord = bySan oneLabelSan oneLabelNames (recordBytes 2 (text "m") 62 (text "b") 252) (numbers 6 0 0 0 0)
+
+-- "Restrictions and presented names without a wildcard may keep one label": `_m.b` lies in the permitted `b`, and does not match
+abbrev pub oneLabelKept : Certificate
+oneLabelKept =
+    constrained oneLabelSan oneLabelNames (hex "30 15 A0 13 30 11 A0 0F 06 08 2B 06 01 05 05 07 08 07 A0 03 16 01 62")
+    (side 0 (text "b") ∷ []) dns (numbers 1 0 0 0 0)
+
+-- "Labels of 63 and 64 bytes", each with a second label
+abbrev pub longLabel : ℕ → ℕ → Verdict → Certificate
+longLabel n fill numbers =
+    let name : List ℕ = replicate n 0x61 ++ text ".b" in
+    bySan (0x30 ∷ (n + 4) ∷ 0x82 ∷ (n + 2) ∷ name) (San.plain 0x82 name ∷ []) (recordBytes 1 [] 63 name fill) numbers
 
 -- ---- rows
 

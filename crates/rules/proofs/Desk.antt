@@ -1,4 +1,5 @@
--- The other examples of document 01, its old faults, and the smallest examples that tell its other sentences apart, computed.
+-- The other examples of documents 01 and 02, their old faults, and the smallest examples that tell their other sentences apart,
+-- computed.
 use Prim.Native.Nat.{ℕ, _<_}
 use mathlib.Core.Bool.{Bool, true, false, cond}
 use mathlib.Core.Logic.{_↔_}
@@ -71,8 +72,10 @@ domains =
     ∷ tested (Names.dnsId (text "*." ++ labelled 63 63 63 59)) true
     ∷ tested (Names.dnsId (text "*." ++ labelled 63 63 63 60)) false
     ∷ tested (Names.dnsId (text "*." ++ labelled 63 63 63 61)) false
-    ∷ tested (Names.dnsId (text "*.a")) true
     ∷ tested (Names.dnsId (text "*")) false
+    -- 1/13: "a wildcard needs at least two labels after it"
+    ∷ tested (Names.dnsId (text "*.a")) false
+    ∷ tested (Names.dnsId (text "*.a.b")) true
     -- "Letters compare without case": no byte beside A to Z folds
     ∷ dnsName (text "A.Z") (text "a.z") true
     ∷ tested (Names.sameText (text "@[") (hex "60 7B")) false
@@ -139,24 +142,30 @@ abbrev records : List Example
 records =
     -- "a total of 0 bytes, or one not divisible by 320"
     tested (Records.goodRecords []) false
-    ∷ tested (Records.goodRecords (recordBytes 1 [] 63 (text "b") 251)) false
+    ∷ tested (Records.goodRecords (recordBytes 1 [] 63 (text "b.c") 249)) false
     -- "Byte 0 kind: 1 DNS, 2 SRV, 3 URI, 4 CN. Byte 1 zero."
-    ∷ tested (Records.goodRecords (recordBytes 0 [] 63 (text "b") 252)) false
-    ∷ tested (Records.goodRecords (recordBytes 5 [] 63 (text "b") 252)) false
-    ∷ tested (Records.goodRecords (1 ∷ 1 ∷ drop 2 (recordBytes 1 [] 63 (text "b") 252))) false
+    ∷ tested (Records.goodRecords (recordBytes 0 [] 63 (text "b.c") 250)) false
+    ∷ tested (Records.goodRecords (recordBytes 5 [] 63 (text "b.c") 250)) false
+    ∷ tested (Records.goodRecords (1 ∷ 1 ∷ drop 2 (recordBytes 1 [] 63 (text "b.c") 250))) false
     -- "each filled with zeros"
-    ∷ tested (Records.goodRecords (1 ∷ 0 ∷ 0 ∷ 1 ∷ 1 ∷ drop 5 (recordBytes 1 [] 63 (text "b") 252))) false
+    ∷ tested (Records.goodRecords (1 ∷ 0 ∷ 0 ∷ 3 ∷ 1 ∷ drop 5 (recordBytes 1 [] 63 (text "b.c") 250))) false
     -- "Kinds 1 and 4 have service length 0. Kind 2: a service .., 1 to 62 bytes. Kind 3: a URI scheme .., 1 to 63 bytes."
-    ∷ tested (Records.goodRecords (recordBytes 1 (text "a") 62 (text "b") 252)) false
-    ∷ tested (Records.goodRecords (recordBytes 4 (text "a") 62 (text "b") 252)) false
-    ∷ tested (Records.goodRecords (recordBytes 2 [] 63 (text "b") 252)) false
-    ∷ tested (Records.goodRecords (recordBytes 2 (letters 62) 1 (text "b") 252)) true
-    ∷ tested (Records.goodRecords (recordBytes 2 (letters 63) 0 (text "b") 252)) false
-    ∷ tested (Records.goodRecords (recordBytes 3 [] 63 (text "b") 252)) false
-    ∷ tested (Records.goodRecords (recordBytes 3 (letters 63) 0 (text "b") 252)) true
+    ∷ tested (Records.goodRecords (recordBytes 1 (text "a") 62 (text "b.c") 250)) false
+    ∷ tested (Records.goodRecords (recordBytes 4 (text "a") 62 (text "b.c") 250)) false
+    ∷ tested (Records.goodRecords (recordBytes 2 [] 63 (text "b.c") 250)) false
+    ∷ tested (Records.goodRecords (recordBytes 2 (letters 62) 1 (text "b.c") 250)) true
+    ∷ tested (Records.goodRecords (recordBytes 2 (letters 63) 0 (text "b.c") 250)) false
+    ∷ tested (Records.goodRecords (recordBytes 3 [] 63 (text "b.c") 250)) false
+    ∷ tested (Records.goodRecords (recordBytes 3 (letters 63) 0 (text "b.c") 250)) true
     -- "The domain is as defined below, without a wildcard."
-    ∷ tested (Records.goodRecords (recordBytes 1 [] 63 (text "*.b") 250)) false
+    ∷ tested (Records.goodRecords (recordBytes 1 [] 63 (text "*.b.c") 248)) false
     ∷ tested (Records.goodRecords (recordBytes 1 [] 63 [] 253)) false
+    -- 1/13: "a reference record whose domain has one label is refused with 6", of any kind and beside good ones
+    ∷ shows (recordBytes 1 [] 63 (text "b") 252) 0 6 0 0 0
+    ∷ shows (recordBytes 2 (text "m") 62 (text "b") 252) 0 6 0 0 0
+    ∷ shows (recordBytes 3 (text "m") 62 (text "b") 252) 0 6 0 0 0
+    ∷ shows (recordBytes 4 [] 63 (text "b") 252) 0 6 0 0 0
+    ∷ shows (recordBytes 1 [] 63 (text "a.b") 250 ++ recordBytes 1 [] 63 (text "b") 252) 0 6 0 0 0
     -- "that record's kind and two lengths, zeros on a refusal or past the last"
     ∷ shows (recordBytes 2 (text "m") 62 (text "a.b") 250) 0 0 2 1 3
     ∷ shows (recordBytes 2 (text "m") 62 (text "a.b") 250) 1 0 0 0 0
@@ -248,6 +257,16 @@ verdicts =
     ∷ verdict Certificates.cnAndOther
     ∷ verdict Certificates.secondSet
     ∷ verdict Certificates.cnNotCut
+    ∷ verdict (Certificates.wildcardOver1 Certificates.dns)
+    ∷ verdict (Certificates.wildcardOver1 Certificates.cn)
+    ∷ verdict (Certificates.wildcardOver2 (recordBytes 1 [] 63 (text "a.b.c") 248) (numbers 0 0 0 2 7))
+    ∷ verdict (Certificates.wildcardOver2 (recordBytes 1 [] 63 (text "b.c") 250) (numbers 1 0 0 0 0))
+    ∷ verdict Certificates.cnOver1
+    ∷ verdict Certificates.cnOver2
+    ∷ verdict Certificates.oneLabelRecord
+    ∷ verdict Certificates.oneLabelKept
+    ∷ verdict (Certificates.longLabel 63 188 (numbers 0 0 0 2 67))
+    ∷ verdict (Certificates.longLabel 64 187 (numbers 6 0 0 0 0))
     ∷ []
 
 -- "Order for a verdict: 7 for any of the four inputs, then 6, 3, 4, 5"
@@ -267,8 +286,8 @@ refusals =
 abbrev witnesses : List Example
 witnesses =
     witness Certificates.lowestReference (text "a.b") 1 9
-    ++ (witness Certificates.srvMatches (text "_m.b") 1 18
-    ++ (witness Certificates.uriMatched (text "a://u@b:1/") 1 4
+    ++ (witness Certificates.srvMatches (text "_m.b.c") 1 18
+    ++ (witness Certificates.uriMatched (text "a://u@b.c:1/") 1 4
     ++ (witness Certificates.cnMatches (text "a.b") 2 13
     ++ (witness Certificates.srvBroken [] 1 0 ++ (witness Certificates.badFill [] 1 0 ++ witness Certificates.cnBlocked [] 1 0)))))
 
@@ -290,7 +309,7 @@ table =
     domains ++ (services ++ (uris ++ (records ++ (generalNames ++ (groups ++ (absences ++ (verdicts ++ (refusals ++ (witnesses ++ listings)))))))))
 
 pub desk : All table
-unfolding part same begins before after ascii upTo Names.letter Names.digit Names.letterDigitHyphen Names.lower Names.sameText Names.ldh Names.label Names.longer Names.labels Names.domain Names.sameLabels Names.sameDomain Names.wildcard Names.dnsId Names.leftmostMatches Names.labelsMatch Names.dnsMatches Names.service Names.serviceOf Names.domainOf Names.srvId Names.srvMatches Names.restriction Names.givenService Names.givenDomain Names.lastLabels Names.domainWithin Names.inSubtree Names.schemeByte Names.scheme Names.schemeOf Names.authorityEnd Names.authorityOf Names.hostAndPort Names.hostOf Names.portOf Names.uriId Names.uriMatches Records.referenceOf Records.filled Records.goodService Records.goodReference Records.goodRecord Records.split Records.recordsOf Records.goodRecords Records.referencesOf Der.lengthBytes Der.element Der.header Der.run Der.push Der.groups Der.rowsOfMembers Der.rowsOfGroups San.tagOf San.contentOf San.writeName San.sealed San.goodValue San.goodSrvName San.goodName San.nameKind San.rowsOfNames Subject.writeAttribute Subject.goodAttribute Subject.writeSet Subject.goodSet Subject.numbered Subject.isCn Subject.attributeKind Subject.attributeRow Seen.seenRecords Matching.taggedText Matching.srvText Matching.entryText Matching.soleCn Matching.cnText Matching.blocksCn Matching.presentedIn Matching.presentedTo Matching.textMatches Matching.matches Matching.firstPair Matching.srvSubtrees Matching.liesIn Matching.allowed Matching.breaks Matching.firstBroken Verdict.witnessOf Verdict.judged Verdict.outcomeOf Verdict.numbersOf Verdict.verdictOf Constraints.goodRestriction Constraints.goodSubtree Constraints.writeSubtree Constraints.writeSide Constraints.goodSide Constraints.subtreeRow Listing.listedOf Listing.tableAfter Records.shownAt Records.shown Verdict.witnessText Verdict.witnessPlace Verdict.witnessPart
+unfolding part same begins before after ascii upTo Names.letter Names.digit Names.letterDigitHyphen Names.lower Names.sameText Names.ldh Names.label Names.longer Names.labels Names.domain Names.twoLabels Names.sameLabels Names.sameDomain Names.wildcard Names.dnsId Names.leftmostMatches Names.labelsMatch Names.dnsMatches Names.service Names.serviceOf Names.domainOf Names.srvId Names.srvMatches Names.restriction Names.givenService Names.givenDomain Names.lastLabels Names.domainWithin Names.inSubtree Names.schemeByte Names.scheme Names.schemeOf Names.authorityEnd Names.authorityOf Names.hostAndPort Names.hostOf Names.portOf Names.uriId Names.uriMatches Records.referenceOf Records.filled Records.goodService Records.goodReference Records.goodRecord Records.split Records.recordsOf Records.goodRecords Records.referencesOf Der.lengthBytes Der.element Der.header Der.run Der.push Der.groups Der.rowsOfMembers Der.rowsOfGroups San.tagOf San.contentOf San.writeName San.sealed San.goodValue San.goodSrvName San.goodName San.nameKind San.rowsOfNames Subject.writeAttribute Subject.goodAttribute Subject.writeSet Subject.goodSet Subject.numbered Subject.isCn Subject.attributeKind Subject.attributeRow Seen.seenRecords Matching.taggedText Matching.srvText Matching.entryText Matching.soleCn Matching.cnText Matching.blocksCn Matching.presentedIn Matching.presentedTo Matching.textMatches Matching.matches Matching.firstPair Matching.srvSubtrees Matching.liesIn Matching.allowed Matching.breaks Matching.firstBroken Verdict.witnessOf Verdict.judged Verdict.outcomeOf Verdict.numbersOf Verdict.verdictOf Constraints.goodRestriction Constraints.goodSubtree Constraints.writeSubtree Constraints.writeSide Constraints.goodSide Constraints.subtreeRow Listing.listedOf Listing.tableAfter Records.shownAt Records.shown Verdict.witnessText Verdict.witnessPlace Verdict.witnessPart
 desk = all-hold table tt
 
 -- ---- "Longest inputs, in bytes: SAN 16,384; subject 4,096; constraints 16,384; references 5,120. One byte more is answer 7."

@@ -1,4 +1,4 @@
--- Names as document 01 writes them: parts joined to a text. `specs/Names.antt` takes a text apart; `joined` of JoinedUri.antt proves
+-- Names as documents 01 and 02 write them: parts joined to a text. `specs/Names.antt` takes a text apart; `joined` of JoinedUri.antt proves
 -- that both mean the same texts.
 use Prim.Native.Nat.{ℕ, _≤_}
 use mathlib.Core.Path.{_≡_}
@@ -30,9 +30,10 @@ dotted (l ∷ m ∷ ls) = l ++ (text "." ++ dotted (m ∷ ls))
 abbrev pub Domain : List ℕ → Type 0
 Domain t = (ls : List (List ℕ)) × T (some? ls) × T (all label ls) × (length t ≤ 253) × (t ≡ dotted ls)
 
--- "`*.` and a domain (at most 253 bytes in all)"
+-- "`*.` and a domain (at most 253 bytes in all)", with "at least two labels": a label, ".", a domain
 abbrev pub Wildcard : List ℕ → Type 0
-Wildcard t = (d : List ℕ) × T (domain d) × (length t ≤ 253) × (t ≡ text "*." ++ d)
+Wildcard t =
+    (l : List ℕ) × (d : List ℕ) × T (label l) × T (domain d) × (length t ≤ 253) × (t ≡ text "*." ++ (l ++ (text "." ++ d)))
 
 -- "SRV-ID: "_", a service (1 to 62 letters, digits, hyphens, no hyphen at an end), ".", a domain without wildcard."
 abbrev pub SrvId : List ℕ → Type 0

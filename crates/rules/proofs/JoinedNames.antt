@@ -1,5 +1,5 @@
 -- Domains, DNS-IDs, SRV-IDs and restrictions taken apart and put together.
-use Prim.Native.Nat.{ℕ, suc, _-_, _≤_}
+use Prim.Native.Nat.{ℕ, suc, _+_, _-_, _≤_}
 use mathlib.Core.Path.{_≡_, refl, sym, ap, _∙_}
 use mathlib.Core.Bool.{true, false, not, _&&_, or-true}
 use mathlib.Core.Logic.{_⊎_, _≢_, inl, inr}
@@ -10,7 +10,7 @@ use lib.Seq.{take-length, take-suc, getD-append-seam}
 use lib.Dec.{T, eqb, leb}
 use borrow.Author.Tests.{eqb-true, eq-eqb, ne-eqb, leb-true, le-leb, not-true}
 use Rattle.rules.specs.Bytes.{some?, all, any, begins, before, after}
-use Rattle.rules.specs.Names.{is, dot, hyphen, underscore, letter, letterDigitHyphen, ldh, label, longer, labels, domain, wildcard, dnsId, service, serviceOf, domainOf, srvId, restriction, schemeByte, scheme}
+use Rattle.rules.specs.Names.{is, dot, hyphen, underscore, letter, letterDigitHyphen, ldh, label, longer, labels, domain, twoLabels, wildcard, dnsId, service, serviceOf, domainOf, srvId, restriction, schemeByte, scheme}
 use Rattle.rules.proofs.Text.{text}
 use Rattle.rules.proofs.Cases.{by-cases, and-left, and-right, clash, is-true, holds}
 use Rattle.rules.proofs.Cut
@@ -114,6 +114,16 @@ dotted-labels (b ∷ s) =
     (λ e. rw e (dotted-dot (labels s) (labels-some s) ∙ rw (dotted-labels s, eqb-true b dot e)))
     (λ e. rw e (dotted-longer b (labels s) ∙ ap (λ l. b ∷ l) (dotted-labels s)))
 
+some-long : (ls : List (List ℕ)) → T (some? ls) → 1 ≤ length ls
+some-long [] h = absurd h
+some-long (l ∷ ls) h = omega arith
+
+-- a text with a dot is cut at its first
+cut-at-dot : (t : List ℕ) → any (is dot) t ≡ true → t ≡ before (is dot) t ++ (text "." ++ after (is dot) t)
+cut-at-dot t h =
+    let c = Cut.cut-there (is dot) t h in
+    c .2 ∙ ap (λ x. before (is dot) t ++ x ∷ after (is dot) t) (eqb-true (c .0) dot (c .1))
+
 -- one label, and a label in front of others
 labels-one : (l : List ℕ) → any (is dot) l ≡ false → labels l ≡ l ∷ []
 unfolding labels longer
@@ -168,18 +178,61 @@ begins-append (x ∷ p) r = rw (eq-eqb x x refl) (begins-append p r)
 
 -- ---- DNS-IDs
 
+-- the first of two labels ends at a dot, and past it stands a domain
+first-label : (t : List ℕ) → domain t ≡ true → twoLabels t ≡ true
+    → T (label (before (is dot) t)) × T (domain (after (is dot) t)) × (t ≡ before (is dot) t ++ (text "." ++ after (is dot) t))
+unfolding domain twoLabels
+first-label t e two =
+    by-cases (any (is dot) t)
+    (λ h.
+    let whole = cut-at-dot t h in
+    let parts : labels t ≡ before (is dot) t ∷ labels (after (is dot) t) =
+    ap labels whole ∙ labels-seam (after (is dot) t) (before (is dot) t) (Cut.any-before (is dot) (is dot) (λ x k. k) t) in
+    let good : label (before (is dot) t) && all label (labels (after (is dot) t)) ≡ true =
+    ap (all label) (sym parts) ∙ and-right (leb (length t) 253) (all label (labels t)) e in
+    let short = leb-true (length t) 253 (and-left (leb (length t) 253) (all label (labels t)) e) in
+    let n : length t ≡ length (before (is dot) t) + suc (length (after (is dot) t)) =
+    ap length whole ∙ length-append (before (is dot) t) (dot ∷ after (is dot) t) in (
+      holds (label (before (is dot) t)) (and-left (label (before (is dot) t)) (all label (labels (after (is dot) t))) good),
+      holds (domain (after (is dot) t))
+          (simp (le-leb (length (after (is dot) t)) 253 (omega arith), and-right (label (before (is dot) t)) (all label (labels (after (is dot) t))) good)),
+      whole,
+    ))
+    (λ h. clash two (rw (labels-one t h)))
+
 pub wildcard-taken : (t : List ℕ) → wildcard t ≡ true → Wildcard t
 unfolding wildcard
 wildcard-taken t e =
     let b : begins (text "*.") t ≡ true = search (and-left, and-right) in
     let d : domain (drop 2 t) ≡ true = search (and-left, and-right) in
+    let two : twoLabels (drop 2 t) ≡ true = search (and-left, and-right) in
     let l : leb (length t) 253 ≡ true = search (and-left, and-right) in
-    (drop 2 t, holds (domain (drop 2 t)) d, leb-true (length t) 253 l, begins-parts (text "*.") t b)
+    let (first, rest, whole) = first-label (drop 2 t) d two in (
+      before (is dot) (drop 2 t),
+      after (is dot) (drop 2 t),
+      first,
+      rest,
+      leb-true (length t) 253 l,
+      begins-parts (text "*.") t b ∙ ap (λ r. text "*." ++ r) whole,
+    )
 
 pub wildcard-put : (t : List ℕ) → Wildcard t → wildcard t ≡ true
-unfolding wildcard
-wildcard-put t (d, good, short, whole) =
-    simp (le-leb (length t) 253 short, ap (begins (text "*.")) whole ∙ begins-append (text "*.") d, ap (drop 2) whole, is-true (domain d) good)
+unfolding wildcard domain twoLabels
+wildcard-put t (l, d, first, rest, short, whole) =
+    let r : List ℕ = l ++ dot ∷ d in
+    let parts : labels r ≡ l ∷ labels d = labels-seam d l (label-no-dot l (is-true (label l) first)) in
+    let n : length t ≡ suc (suc (length r)) = ap length whole in
+    let good : all label (labels d) ≡ true = and-right (leb (length d) 253) (all label (labels d)) (is-true (domain d) rest) in
+    simp (
+      le-leb (length t) 253 short,
+      ap (begins (text "*.")) whole ∙ begins-append (text "*.") r,
+      ap (drop 2) whole,
+      le-leb (length r) 253 (omega arith),
+      parts,
+      is-true (label l) first,
+      good,
+      le-leb 2 (suc (length (labels d))) (omega (arith, some-long (labels d) (labels-some d))),
+    )
 
 pub dns-taken : (t : List ℕ) → dnsId t ≡ true → T (domain t) ⊎ Wildcard t
 unfolding dnsId
@@ -196,10 +249,7 @@ dns-put t (inr w) = simp (wildcard-put t w, or-true)
 -- past the underscore: a domain is not empty, so there is a dot
 srv-cut : (r : List ℕ) → domain (after (is dot) r) ≡ true → r ≡ before (is dot) r ++ (text "." ++ after (is dot) r)
 srv-cut r e =
-    by-cases (any (is dot) r)
-    (λ h.
-    let c = Cut.cut-there (is dot) r h in
-    c .2 ∙ ap (λ x. before (is dot) r ++ x ∷ after (is dot) r) (eqb-true (c .0) dot (c .1)))
+    by-cases (any (is dot) r) (cut-at-dot r)
     (λ h. clash e (ap domain (Cut.after-none (is dot) r h) ∙ domain-empty))
 
 -- what stands after the first dot of a text that begins with an underscore

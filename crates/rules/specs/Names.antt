@@ -1,5 +1,5 @@
 -- Names: what is a domain, a service, a scheme; DNS-ID, SRV-ID and URI-ID, and what each matches; the texts of SRVName
--- restrictions, and lying in a subtree. Document 01, "Names", sentence by sentence.
+-- restrictions, and lying in a subtree. Document 01, "Names", sentence by sentence, as document 02 changes them.
 use Prim.Native.Nat.{ℕ, zero, suc, _+_, _-_}
 use mathlib.Core.Bool.{Bool, true, false, cond, not, _&&_, _||_}
 use mathlib.Core.List.{List, [], _∷_}
@@ -87,6 +87,10 @@ labels (b ∷ s) = cond (eqb b dot) ([] ∷ labels s) (longer b (labels s))
 unfoldable pub domain : List ℕ → Bool
 domain s = leb (length s) 253 && all label (labels s)
 
+-- 1/13: "at least two labels"
+unfoldable pub twoLabels : List ℕ → Bool
+twoLabels s = leb 2 (length (labels s))
+
 -- "Letters compare without case, label by label"
 unfoldable pub sameLabels : List (List ℕ) → List (List ℕ) → Bool
 sameLabels [] [] = true
@@ -107,9 +111,9 @@ domainWithin subtree name = lastLabels (labels subtree) (labels name)
 
 -- ---- DNS-ID
 
--- "`*.` and a domain (at most 253 bytes in all)"
+-- "`*.` and a domain (at most 253 bytes in all)". 1/13: "a wildcard needs at least two labels after it, in DNS-ID and CN-ID"
 unfoldable pub wildcard : List ℕ → Bool
-wildcard s = leb (length s) 253 && begins (star ∷ dot ∷ []) s && domain (drop 2 s)
+wildcard s = leb (length s) 253 && begins (star ∷ dot ∷ []) s && domain (drop 2 s) && twoLabels (drop 2 s)
 
 -- "DNS-ID: a dNSName that is a domain, or `*.` and a domain"
 unfoldable pub dnsId : List ℕ → Bool

@@ -6,7 +6,7 @@ use lib.ListN.{length, getD, take, drop}
 use lib.Dec.{leb, ltb, eqb}
 use Rattle.rules.specs.Bytes.{part, some?, all}
 use Rattle.rules.specs.Numbers.{dnsKind, srvKind, uriKind, cnKind, recordSize, serviceLengthAt, domainLengthAt, serviceAt, serviceSize, domainAt, domainSize, recordsLimit, accepted, recordsUnreadable, inputTooLong}
-use Rattle.rules.specs.Names.{domain, service, scheme}
+use Rattle.rules.specs.Names.{domain, twoLabels, service, scheme}
 use Rattle.rules.specs.declared.Shown.{Shown}
 
 -- what a record says; the service of a URI reference is its scheme
@@ -33,9 +33,9 @@ goodService kind s =
     cond (eqb kind dnsKind || eqb kind cnKind) (eqb (length s) 0)
     (cond (eqb kind srvKind) (service s) (cond (eqb kind uriKind) (scheme s) false))
 
--- "The domain is as defined below, without a wildcard."
+-- "The domain is as defined below, without a wildcard." 1/13: "a reference record whose domain has one label is refused with 6"
 unfoldable pub goodReference : Reference → Bool
-goodReference r = goodService (r .kind) (r .service) && domain (r .domain)
+goodReference r = goodService (r .kind) (r .service) && domain (r .domain) && twoLabels (r .domain)
 
 -- "Byte 1 zero."
 unfoldable pub goodRecord : List ℕ → Bool
