@@ -1,11 +1,13 @@
-//! The desk examples and the old faults of document 01, as one numbered table.
-//! P1 to P16 are the document's numbers; D1 on are the desk examples without a
-//! number, in order; F1 to F5 the old faults, in order.
+//! The desk examples and the old faults of document 01, and the examples of
+//! request 1/13, as one numbered table. P1 to P16 are the document's numbers;
+//! D1 on are the desk examples without a number, in order; F1 to F5 the old
+//! faults, in order; L1 on the examples of the request.
 
 use crate::generate::Case;
-use crate::records::kind::{CN, DNS, SRV};
+use crate::records::kind::{CN, DNS, SRV, URI};
 use crate::tree::{
-    common_name, constraints, dns_name, email, rdn, record, san, srv_name, subject, subtree, Node,
+    common_name, constraints, dns_name, email, rdn, record, san, srv_name, subject, subtree,
+    uri_name, Node,
 };
 
 /// One line of the table: inputs, and the five numbers of the verdict.
@@ -45,6 +47,9 @@ pub fn table() -> Vec<Example> {
     table.extend(written_out());
     table.extend(sizes());
     table.extend(old_faults());
+    table.extend(short_wildcards());
+    table.extend(one_label_records());
+    table.extend(one_label_names());
     table
 }
 
@@ -131,9 +136,17 @@ fn wildcards() -> Vec<Example> {
     ]
 }
 
-const SRV_SAN: [u8; 22] = [
+/// Document 01's SRVName `_m.b`.
+const OLD_SRV_SAN: [u8; 22] = [
     0x30, 0x14, 0xA0, 0x12, 0x06, 0x08, 0x2B, 0x06, 0x01, 0x05, 0x05, 0x07, 0x08, 0x07, 0xA0, 0x06,
     0x16, 0x04, 0x5F, 0x6D, 0x2E, 0x62,
+];
+
+/// Request 1/13: "the m, `b` example of 01 must be rerun with reference and
+/// name `b.c`".
+const SRV_SAN: [u8; 24] = [
+    0x30, 0x16, 0xA0, 0x14, 0x06, 0x08, 0x2B, 0x06, 0x01, 0x05, 0x05, 0x07, 0x08, 0x07, 0xA0, 0x08,
+    0x16, 0x06, 0x5F, 0x6D, 0x2E, 0x62, 0x2E, 0x63,
 ];
 
 const SRV_CONSTRAINTS: [u8; 24] = [
@@ -145,15 +158,8 @@ const SRV_CONSTRAINTS: [u8; 24] = [
 fn written_out() -> Vec<Example> {
     let cn = record(CN, b"", b"a.b");
     let dns = record(DNS, b"", b"a.b");
-    let srv = case(SRV_SAN.to_vec(), record(SRV, b"m", b"b"));
-    let kept = Case {
-        constraints: SRV_CONSTRAINTS.to_vec(),
-        ..srv.clone()
-    };
-    let mut broken = kept.clone();
-    broken.constraints[23] = 0x6E;
     let long_form = vec![0x30, 0x81, 0x05, 0x82, 0x03, 0x61, 0x2E, 0x62];
-    vec![
+    let mut table = vec![
         example(
             "P16",
             case(S.to_vec(), record(DNS, b"", b"A.B")),
@@ -163,10 +169,29 @@ fn written_out() -> Vec<Example> {
         example("D2", case(vec![0x30, 0x02, 0x82, 0x00], cn), bare(1)),
         example("D3", case(long_form, dns.clone()), bare(3)),
         example("D4", case(vec![0x30, 0x00], dns), bare(3)),
-        example("D5", srv, [0, 0, 0, 2, 20]),
-        example("D6", kept, [0, 0, 0, 2, 20]),
-        example("D7", broken, bare(2)),
-    ]
+    ];
+    let [alone, kept, broken] = under_constraints(&SRV_SAN, b"b.c");
+    table.push(example("D5", alone, [0, 0, 0, 2, 22]));
+    table.push(example("D6", kept, [0, 0, 0, 2, 22]));
+    table.push(example("D7", broken, bare(2)));
+    let [alone, kept, broken] = under_constraints(&OLD_SRV_SAN, b"b");
+    table.push(example("D5: one label", alone, bare(6)));
+    table.push(example("D6: one label", kept, bare(6)));
+    table.push(example("D7: one label", broken, bare(6)));
+    table
+}
+
+/// An SRV reference of service m: without constraints, with the document's,
+/// and "With the last byte 6E".
+fn under_constraints(san: &[u8], domain: &[u8]) -> [Case; 3] {
+    let alone = case(san.to_vec(), record(SRV, b"m", domain));
+    let kept = Case {
+        constraints: SRV_CONSTRAINTS.to_vec(),
+        ..alone.clone()
+    };
+    let mut broken = kept.clone();
+    broken.constraints[23] = 0x6E;
+    [alone, kept, broken]
 }
 
 /// A domain of this many bytes, in labels of at most 50.
@@ -183,11 +208,14 @@ pub fn domain_of(length: usize) -> Vec<u8> {
 }
 
 /// "Labels of 63 and 64 bytes, domains of 253 and 254, 16 and 17 records,
-/// lengths 127/128 and 255/256."
+/// lengths 127/128 and 255/256." A record with such a label needs another one
+/// since request 1/13.
 fn sizes() -> Vec<Example> {
+    let above = |length| [vec![b'l'; length].as_slice(), b".b"].concat();
     let mut table = vec![
-        same_domain("D8: label of 63", &[b'l'; 63], [0, 0, 0, 2, 65]),
-        same_domain("D8: label of 64", &[b'l'; 64], bare(6)),
+        same_domain("D8: label of 63", &above(63), [0, 0, 0, 2, 67]),
+        same_domain("D8: label of 64", &above(64), bare(6)),
+        same_domain("D8: label of 63 alone", &[b'l'; 63], bare(6)),
         same_domain("D8: domain of 253", &domain_of(253), [0, 0, 0, 4, 256]),
         same_domain("D8: domain of 254", &domain_of(254), bare(6)),
     ];
@@ -255,4 +283,86 @@ fn excused(entries: Vec<Node>) -> Case {
         constraints: SRV_CONSTRAINTS.to_vec(),
         ..case(san(entries).write(), record(DNS, b"", b"a.b"))
     }
+}
+
+/// A subject whose only attribute is a CN of this value.
+fn named(value: &str) -> Vec<u8> {
+    subject(vec![rdn(vec![common_name(0x0C, value.as_bytes())])]).write()
+}
+
+/// No SAN, one CN and one CN reference.
+fn cn(number: &str, value: &str, reference: &str, verdict: [u32; 5]) -> Example {
+    let case = Case {
+        subject: named(value),
+        ..case(Vec::new(), record(CN, b"", reference.as_bytes()))
+    };
+    example(number, case, verdict)
+}
+
+/// "From now on a wildcard needs at least two labels after it, in DNS-ID and
+/// CN-ID [...] A dNSName that is no longer a DNS-ID still blocks the CN."
+fn short_wildcards() -> Vec<Example> {
+    let short = || san(vec![dns_name(b"*.b")]).write();
+    let blocked = case(short(), record(CN, b"", b"a.b"));
+    let behind = san(vec![dns_name(b"*.b"), dns_name(b"a.b")]).write();
+    vec![
+        dns("L1", "*.example", "branch.example", false),
+        dns("L2", "*.b", "a.b", false),
+        dns("L3", "*.b.c", "a.b.c", true),
+        dns("L4", "*.b.c", "b.c", false),
+        example("L5", blocked, bare(1)),
+        example(
+            "L6",
+            case(behind, record(DNS, b"", b"a.b")),
+            [0, 0, 1, 7, 5],
+        ),
+        cn("L7", "*.b", "a.b", bare(1)),
+        cn("L8", "*.b.c", "a.b.c", [0, 0, 0, 4, 14]),
+        cn("L9", "*.b.c", "b.c", bare(1)),
+    ]
+}
+
+/// "a reference record whose domain has one label is refused with 6", whatever
+/// its kind, and one such record beside good ones refuses all.
+fn one_label_records() -> Vec<Example> {
+    let kinds = [
+        (DNS, "", dns_name(b"b")),
+        (SRV, "m", srv_name(b"_m.b")),
+        (URI, "m", uri_name(b"m://b")),
+        (CN, "", email(b"")),
+    ];
+    let mut table = Vec::new();
+    for (kind, service, name) in kinds {
+        let one = record(kind, service.as_bytes(), b"b");
+        let good = record(DNS, b"", b"a.b");
+        let sets = [
+            ("alone", one.clone()),
+            ("first", [one.clone(), good.clone()].concat()),
+            ("last", [good, one].concat()),
+        ];
+        for (place, references) in sets {
+            let case = Case {
+                san: san(vec![name.clone()]).write(),
+                subject: named("b"),
+                constraints: Vec::new(),
+                references,
+            };
+            table.push(example(&format!("L10: kind {kind} {place}"), case, bare(6)));
+        }
+    }
+    table
+}
+
+/// "Restrictions and presented names without a wildcard may keep one label".
+fn one_label_names() -> Vec<Example> {
+    let under = |restriction: &[u8]| Case {
+        constraints: constraints(vec![subtree(srv_name(restriction))], Vec::new()).write(),
+        ..case(OLD_SRV_SAN.to_vec(), record(DNS, b"", b"a.b"))
+    };
+    vec![
+        example("L11", under(b"b"), bare(1)),
+        example("L12", under(b"_m.b"), bare(1)),
+        example("L13", under(b"c"), bare(2)),
+        dns("L14", "b", "a.b", false),
+    ]
 }

@@ -26,7 +26,8 @@ pub struct Reference<'a> {
     /// The service or the scheme.
     pub service: &'a [u8],
     pub domain: &'a [u8],
-    /// The domain without its first label, which is what a wildcard leaves.
+    /// The domain without its first label, which is what a wildcard leaves, if
+    /// that has the two labels that a wildcard needs after it.
     pub parent: Option<&'a [u8]>,
 }
 
@@ -34,7 +35,8 @@ impl<'a> Reference<'a> {
     /// Reads one record. "Byte 1 zero. Byte 2 service length, byte 3 domain
     /// length. [...] Kinds 1 and 4 have service length 0. Kind 2: a service as
     /// defined below [...] Kind 3: a URI scheme [...] The domain is as defined
-    /// below, without a wildcard."
+    /// below, without a wildcard." Request 1/13, of records of every kind: "a
+    /// reference record whose domain has one label is refused with 6".
     fn read(record: &'a [u8]) -> Option<Self> {
         let [kind, zero, service_length, domain_length, ..] = *record else {
             return None;
@@ -47,7 +49,8 @@ impl<'a> Reference<'a> {
             kind::URI => text::is_scheme(service),
             _ => false,
         };
-        let readable = zero == 0 && service_fits && text::is_domain(domain);
+        let domain_fits = text::is_domain(domain) && text::has_two_labels(domain);
+        let readable = zero == 0 && service_fits && domain_fits;
         readable.then(|| Reference {
             kind,
             service,

@@ -28,6 +28,13 @@ pub fn is_domain(text: &[u8]) -> bool {
             .all(|label| is_label(label, LONGEST_LABEL))
 }
 
+/// Whether a domain has two labels or more, which request 1/13 asks of what
+/// stands after a wildcard and of a record's domain: a dot in a domain has a
+/// label on either side.
+pub fn has_two_labels(domain: &[u8]) -> bool {
+    domain.contains(&b'.')
+}
+
 /// "a service (1 to 62 letters, digits, hyphens, no hyphen at an end)"
 pub fn is_service(text: &[u8]) -> bool {
     is_label(text, LONGEST_SERVICE)
@@ -49,9 +56,12 @@ fn split_once(text: &[u8], separator: u8) -> Option<(&[u8], &[u8])> {
     Some((&text[..at], &text[at + 1..]))
 }
 
-/// The domain without its first label, if it has more than one.
+/// The domain without its first label, if a wildcard may stand before what is
+/// left. Request 1/13: "From now on a wildcard needs at least two labels after
+/// it, in DNS-ID and CN-ID".
 pub fn parent(domain: &[u8]) -> Option<&[u8]> {
-    split_once(domain, b'.').map(|(_, parent)| parent)
+    let (_, parent) = split_once(domain, b'.')?;
+    has_two_labels(parent).then_some(parent)
 }
 
 /// Service and domain of an SRVName, not yet judged: "_", what stands before

@@ -1,4 +1,4 @@
-//! The verdict once more, as slow and literal as the document's sentences, for
+//! The verdict once more, as slow and literal as the documents' sentences, for
 //! generated cases: a nested loop over references and names, each name judged
 //! on its own before it is compared.
 
@@ -51,6 +51,12 @@ fn literal(case: &Case) -> Numbers<'_> {
     let Some(references) = References::read(&case.references) else {
         return bare(answer::REFERENCES_UNREADABLE);
     };
+    // Request 1/13: "a reference record whose domain has one label is refused
+    // with 6".
+    let mut records = references.as_slice().iter();
+    if records.any(|reference| labels(reference.domain).len() < 2) {
+        return bare(answer::REFERENCES_UNREADABLE);
+    }
     let (mut entries, mut attributes, mut subtrees) = (Vec::new(), Vec::new(), Vec::new());
     if san::read(&case.san, |name| entries.push(name)).is_none() {
         return bare(answer::SAN_UNREADABLE);
@@ -185,10 +191,12 @@ fn matches(reference: &Reference, text: &[u8]) -> bool {
     }
 }
 
-/// Whether a text is a DNS-ID, and matches these labels.
+/// Whether a text is a DNS-ID, and matches these labels. Request 1/13: "a
+/// wildcard needs at least two labels after it".
 fn matches_dns_id(wanted: &[Vec<u8>], text: &[u8]) -> bool {
-    match text.strip_prefix(b"*.") {
-        None => is_domain(text) && labels(text) == wanted,
-        Some(rest) => text.len() <= 253 && is_domain(rest) && labels(rest) == wanted[1..],
-    }
+    let Some(rest) = text.strip_prefix(b"*.") else {
+        return is_domain(text) && labels(text) == wanted;
+    };
+    let is_dns_id = text.len() <= 253 && is_domain(rest) && labels(rest).len() >= 2;
+    is_dns_id && labels(rest) == wanted[1..]
 }

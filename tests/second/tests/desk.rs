@@ -1,4 +1,5 @@
-//! The desk examples and old faults of document 01, by number.
+//! The desk examples and old faults of document 01 and the examples of request
+//! 1/13, by number.
 
 use second::examples::{table, J, S};
 use second::records::kind::{CN, DNS, SRV, URI};
@@ -25,16 +26,14 @@ fn every_number_is_in_the_table() {
     let numbers: Vec<String> = table().into_iter().map(|example| example.number).collect();
     let wanted = (1..=16).map(|number| format!("P{number}"));
     let wanted = wanted.chain((1..=7).map(|number| format!("D{number}")));
+    let wanted = wanted.chain((1..=9).map(|number| format!("L{number}")));
+    let wanted = wanted.chain((11..=14).map(|number| format!("L{number}")));
     for number in wanted.chain(["F1", "F2", "F3", "F4"].map(String::from)) {
         assert!(numbers.contains(&number), "{number} is missing");
     }
-    assert_eq!(
-        numbers
-            .iter()
-            .filter(|number| number.starts_with("D8"))
-            .count(),
-        10
-    );
+    let starting = |start: &str| numbers.iter().filter(|one| one.starts_with(start)).count();
+    assert_eq!(starting("D8"), 11);
+    assert_eq!(starting("L10"), 12);
 }
 
 #[test]

@@ -18,7 +18,7 @@ fn one_record_of_each_kind() {
         domain_length,
     };
     assert_eq!(record(&write(DNS, b"", b"a.b"), 0), view(DNS, 0, 3));
-    assert_eq!(record(&write(SRV, b"mail", b"b"), 0), view(SRV, 4, 1));
+    assert_eq!(record(&write(SRV, b"mail", b"b.c"), 0), view(SRV, 4, 3));
     assert_eq!(record(&write(URI, b"h", b"a.b"), 0), view(URI, 1, 3));
     assert_eq!(
         record(&write(CN, b"", &domain_of(253)), 0),
@@ -53,33 +53,65 @@ fn counts_and_indexes() {
 #[test]
 fn fields() {
     let readable = [
-        write(SRV, &[b's'; 62], b"a"),
-        write(URI, &[b'u'; 63], b"a"),
-        write(URI, b"a+b-c.d", b"a"),
-        write(DNS, b"", &[b'l'; 63]),
+        write(SRV, &[b's'; 62], b"a.b"),
+        write(URI, &[b'u'; 63], b"a.b"),
+        write(URI, b"a+b-c.d", b"a.b"),
+        write(DNS, b"", &[&[b'l'; 63], b".b".as_slice()].concat()),
+        write(DNS, b"", &[b"b.".as_slice(), &[b'l'; 63]].concat()),
     ];
     for record in readable {
         assert_eq!(answer(&record), 0, "{record:?}");
     }
     let unreadable = [
-        write(0, b"", b"a"),
-        write(5, b"", b"a"),
-        write(DNS, b"s", b"a"),
-        write(CN, b"s", b"a"),
-        write(SRV, b"", b"a"),
-        write(SRV, &[b's'; 63], b"a"),
-        write(SRV, b"_s", b"a"),
-        write(URI, b"", b"a"),
-        write(URI, &[b'u'; 64], b"a"),
-        write(URI, b"9", b"a"),
+        write(0, b"", b"a.b"),
+        write(5, b"", b"a.b"),
+        write(DNS, b"s", b"a.b"),
+        write(CN, b"s", b"a.b"),
+        write(SRV, b"", b"a.b"),
+        write(SRV, &[b's'; 63], b"a.b"),
+        write(SRV, b"_s", b"a.b"),
+        write(URI, b"", b"a.b"),
+        write(URI, &[b'u'; 64], b"a.b"),
+        write(URI, b"9", b"a.b"),
         write(DNS, b"", b""),
         write(DNS, b"", b"*.a"),
+        write(DNS, b"", b"*.a.b"),
         write(DNS, b"", b"a."),
-        write(DNS, b"", &[b'l'; 64]),
+        write(DNS, b"", b"a.b."),
+        write(DNS, b"", b".a.b"),
+        write(DNS, b"", &[&[b'l'; 64], b".b".as_slice()].concat()),
+        write(DNS, b"", &[b"b.".as_slice(), &[b'l'; 64]].concat()),
         write(DNS, b"", &domain_of(254)),
     ];
     for record in unreadable {
         assert_eq!(answer(&record), 6, "{record:?}");
+    }
+}
+
+/// Request 1/13: "a reference record whose domain has one label is refused
+/// with 6".
+#[test]
+fn one_label() {
+    let refused = RecordView {
+        answer: 6,
+        ..RecordView::default()
+    };
+    let long = [b'l'; 63];
+    for (kind, service) in [(DNS, ""), (SRV, "m"), (URI, "m"), (CN, "")] {
+        let write = |domain: &[u8]| write(kind, service.as_bytes(), domain);
+        for domain in [b"b".as_slice(), b"B", b"0", b"a-b", b"xn--p1ai", &long] {
+            assert_eq!(record(&write(domain), 0), refused, "{kind} {domain:?}");
+            let second = [domain, b".c"].concat();
+            assert_eq!(record(&write(&second), 0).answer, 0, "{kind} {second:?}");
+        }
+        for place in 0..16 {
+            let mut records = vec![write(b"b.c"); 16];
+            assert_eq!(record(&records.concat(), place).answer, 0);
+            records[place] = write(b"b");
+            for index in 0..17 {
+                assert_eq!(record(&records.concat(), index), refused, "{kind} {place}");
+            }
+        }
     }
 }
 

@@ -2,7 +2,9 @@
 //! by line from this implementation.
 
 use second::records::kind::{CN, DNS, SRV, URI};
-use second::text::{is_domain, is_scheme, is_service, is_srv_subtree, lies_in, srv_id};
+use second::text::{
+    has_two_labels, is_domain, is_scheme, is_service, is_srv_subtree, lies_in, srv_id, uri_parts,
+};
 use second::tree::{dns_name, record, san, srv_name, uri_name, Node};
 use second::{answer, examples::J, judge, list, list_into, verdict, Row, Which};
 use std::fs;
@@ -27,26 +29,32 @@ fn stored(program: &str, lines: &[Vec<u8>]) {
     assert_eq!(stored.len(), lines.len(), "{program}: lines");
 }
 
-/// Whether a SAN of this one name matches this one reference.
+/// Whether a SAN of this one name matches this one reference; never where the
+/// record is refused.
 fn matches(name: Node, kind: u8, service: &[u8], domain: &[u8]) -> bool {
     let fits = service.len() <= 63 && domain.len() <= 253;
     let names = san(vec![name]).write();
     fits && verdict(&names, &J, &[], &record(kind, service, domain)).answer == answer::MATCH
 }
 
-/// A DNS-ID matches the domain in which `*` is a label of one letter.
+/// A DNS-ID matches the domain in which `*` is a label of one letter. No record
+/// asks for a domain of one label, and yet that is a DNS-ID: "presented names
+/// without a wildcard may keep one label" (request 1/13).
 fn is_dns_id(text: &[u8]) -> bool {
-    let domain = match text {
-        [b'*', b'.', rest @ ..] => [b"a.", rest].concat(),
-        _ => text.to_vec(),
-    };
-    matches(dns_name(text), DNS, b"", &domain)
+    match text {
+        [b'*', b'.', rest @ ..] => matches(dns_name(text), DNS, b"", &[b"a.", rest].concat()),
+        _ if has_two_labels(text) => matches(dns_name(text), DNS, b"", text),
+        _ => is_domain(text),
+    }
 }
 
-/// A URI-ID matches the scheme before its first colon and some domain in it.
+/// A URI-ID matches the scheme before its first colon and some domain in it, or
+/// has a domain of one label, for which no record asks.
 fn is_uri_id(text: &[u8]) -> bool {
-    second::text::uri_parts(text)
-        .is_some_and(|(scheme, domain)| matches(uri_name(text), URI, scheme, domain))
+    uri_parts(text).is_some_and(|(scheme, domain)| match has_two_labels(domain) {
+        true => matches(uri_name(text), URI, scheme, domain),
+        false => is_scheme(scheme) && is_domain(domain),
+    })
 }
 
 /// What stands before the first space, and what stands behind it.
@@ -244,30 +252,36 @@ fn listed() {
     stored("listed", &lines);
 }
 
+const ABC: &[u8] = b"\x30\x10\x31\x0E\x30\x0C\x06\x03\x55\x04\x03\x0C\x05a.b.c";
 const SRV_NAME: &[u8] =
-    b"\x30\x16\xA0\x14\x06\x08\x2B\x06\x01\x05\x05\x07\x08\x07\xA0\x08\x16\x06_m.a.b";
-const TWO_SETS: &[u8] = b"\x30\x18\x31\x08\x30\x06\x06\x01\x2A\x0C\x01\x62\x31\x0C\x30\x0A\x06\x03\x55\x04\x03\x13\x03*.b";
+    b"\x30\x18\xA0\x16\x06\x08\x2B\x06\x01\x05\x05\x07\x08\x07\xA0\x0A\x16\x08_m.a.b.c";
+const TWO_SETS: &[u8] = b"\x30\x1A\x31\x08\x30\x06\x06\x01\x2A\x0C\x01\x62\x31\x0E\x30\x0C\x06\x03\x55\x04\x03\x13\x05*.b.c";
 const PERMITTED: &[u8] =
     b"\x30\x16\xA0\x14\x30\x12\xA0\x10\x06\x08\x2B\x06\x01\x05\x05\x07\x08\x07\xA0\x04\x16\x02_n";
 
 /// Title, SAN, subject and constraints of each line of `witnessed`.
 const WITNESSED: [(&str, &[u8], &[u8], &[u8]); 10] = [
-    ("dNSName", b"\x30\x05\x82\x03a.b", &J, b""),
-    ("wildcard", b"\x30\x05\x82\x03*.b", &J, b""),
-    ("second name", b"\x30\x0A\x82\x03x.b\x82\x03A.B", &J, b""),
-    ("SRVName", SRV_NAME, &J, b""),
-    ("URI", b"\x30\x09\x86\x07m://a.b", &J, b""),
-    ("CN", b"", &J, b""),
+    ("dNSName", b"\x30\x07\x82\x05a.b.c", ABC, b""),
+    ("wildcard", b"\x30\x07\x82\x05*.b.c", ABC, b""),
+    (
+        "second name",
+        b"\x30\x0E\x82\x05x.b.c\x82\x05A.B.C",
+        ABC,
+        b"",
+    ),
+    ("SRVName", SRV_NAME, ABC, b""),
+    ("URI", b"\x30\x0B\x86\x09m://a.b.c", ABC, b""),
+    ("CN", b"", ABC, b""),
     ("CN of the second set", b"\x30\x03\x81\x01@", TWO_SETS, b""),
-    ("mismatch", b"\x30\x05\x82\x03x.b", &J, b""),
-    ("unreadable", b"\x30\x00", &J, b""),
-    ("constraints broken", SRV_NAME, &J, PERMITTED),
+    ("mismatch", b"\x30\x07\x82\x05x.b.c", ABC, b""),
+    ("unreadable", b"\x30\x00", ABC, b""),
+    ("constraints broken", SRV_NAME, ABC, PERMITTED),
 ];
 
 #[test]
 fn witnessed() {
     let kinds = [(DNS, ""), (SRV, "m"), (URI, "m"), (CN, "")];
-    let references = kinds.map(|(kind, service)| record(kind, service.as_bytes(), b"a.b"));
+    let references = kinds.map(|(kind, service)| record(kind, service.as_bytes(), b"a.b.c"));
     let references = references.concat();
     let lines: Vec<Vec<u8>> = WITNESSED
         .iter()

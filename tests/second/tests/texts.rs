@@ -31,6 +31,20 @@ fn lengths_of_labels_and_domains() {
     assert!(!is_domain(&domain_of(254)));
 }
 
+/// Request 1/13: "a wildcard needs at least two labels after it".
+#[test]
+fn what_a_wildcard_leaves() {
+    for (domain, left) in [("a.b.c", "b.c"), ("a.b.c.d", "b.c.d"), ("1.0.x", "0.x")] {
+        assert_eq!(parent(domain.as_bytes()), Some(left.as_bytes()), "{domain}");
+    }
+    for domain in ["a", "a.b", "branch.example", "a-b.c-d"] {
+        assert_eq!(parent(domain.as_bytes()), None, "{domain}");
+    }
+    for (domain, two) in [("b", false), ("a-b", false), ("a.b", true), ("a.b.c", true)] {
+        assert_eq!(has_two_labels(domain.as_bytes()), two, "{domain}");
+    }
+}
+
 #[test]
 fn services() {
     for text in ["m", "9", "xmpp-server", "a--b"] {

@@ -1,6 +1,7 @@
 //! A fixed table of cases: every limit, every tag, every small text.
 
 mod far;
+mod labels;
 mod lengths;
 mod uris;
 
@@ -38,6 +39,7 @@ pub fn each(take: Taker) {
     every_byte(take);
     small_texts(take);
     far::each(take);
+    labels::each(take);
     lengths::each(take);
     uris::each(take);
 }
@@ -119,8 +121,8 @@ fn record_counts(take: Taker) {
 fn record_fillers(take: Taker) {
     for kind in [DNS, SRV, URI, CN] {
         for service in [0, 1, 61, 62, 63] {
-            for domain in [0, 1, 127, 200, 252, 253] {
-                let record = record(kind, &vec![b's'; service], &domain_of(domain));
+            for domain in [0, 1, 3, 127, 200, 252, 253] {
+                let record = record(kind, &vec![b's'; service], &labels_of(domain));
                 let (service, domain) = (4 + service, 67 + domain);
                 for place in [1, service - 1, service, 66, domain - 1, domain, 319, 320] {
                     take(second_record(&record, place));
@@ -128,6 +130,15 @@ fn record_fillers(take: Taker) {
             }
         }
     }
+}
+
+/// A domain of this many bytes, of two labels or more where they fit.
+fn labels_of(length: usize) -> Vec<u8> {
+    let mut domain = domain_of(length);
+    if (3..=50).contains(&length) {
+        domain[1] = b'.';
+    }
+    domain
 }
 
 /// A second record, with the byte at this place changed if it has that many.
@@ -152,7 +163,8 @@ fn name_lengths(take: Taker) {
     for length in LENGTHS {
         for label in [vec![b'l'; length], mixed(length)] {
             let below = [b"x.", label.as_slice()].concat();
-            for domain in [&label, &domain_of(length), &below] {
+            let above = [label.as_slice(), b".x"].concat();
+            for domain in [&label, &labels_of(length), &below, &above] {
                 every_role(take, b"s", domain);
             }
             take(same(SRV, &label, b"a.b"));
@@ -177,13 +189,15 @@ fn every_role(take: Taker, service: &[u8], domain: &[u8]) {
     for kind in [DNS, SRV, URI, CN] {
         take(same(kind, service, domain));
     }
-    take(wildcard(domain));
+    for kind in [DNS, CN] {
+        take(wildcard(kind, domain));
+    }
     constrained(service, domain).into_iter().for_each(take);
 }
 
 /// Domains of many labels, and names far below a restriction.
 fn label_counts(take: Taker) {
-    const LABELS: [usize; 13] = [4, 8, 9, 16, 17, 20, 21, 63, 64, 65, 126, 127, 128];
+    const LABELS: [usize; 15] = [2, 3, 4, 8, 9, 16, 17, 20, 21, 63, 64, 65, 126, 127, 128];
     for labels in LABELS {
         every_role(take, b"s", &deep_domain(labels));
         let name = [b"_s.", deep_domain(labels).as_slice()].concat();
@@ -228,18 +242,13 @@ fn same(kind: u8, service: &[u8], domain: &[u8]) -> Line {
     )
 }
 
-/// A wildcard above the domain, for a reference one label below it.
-fn wildcard(domain: &[u8]) -> Line {
-    let san = san(vec![dns_name(&[b"*.", domain].concat())]).write();
-    let references = record(DNS, b"", &[b"a.", domain].concat());
-    (
-        format!("wildcard, length {}", domain.len()),
-        Case {
-            san,
-            references,
-            ..base()
-        },
-    )
+/// A wildcard above the domain, in a dNSName or in a CN, for a reference one
+/// label below it.
+fn wildcard(kind: u8, domain: &[u8]) -> Line {
+    let mut line = same(kind, b"", &[b"*.", domain].concat());
+    line.0 = format!("wildcard, kind {kind}, length {}", domain.len());
+    line.1.references = record(kind, b"", &[b"a.", domain].concat());
+    line
 }
 
 /// The same SRVName as presented identifier, and in each form as permitted and
@@ -307,15 +316,15 @@ fn answer_order(take: Taker) {
 /// All SANs of four SRVNames, each of them one that keeps the constraints or
 /// one of three that break them.
 fn broken_names(take: Taker) {
-    let texts: [&[u8]; 4] = [b"_m.b", b"_n.b", b"_m.x.b", b"m"];
-    let permitted = vec![subtree(dns_name(b"c")), subtree(srv_name(b"_m.b"))];
-    let excluded = vec![subtree(srv_name(b"X.b"))];
+    let texts: [&[u8]; 4] = [b"_m.b.c", b"_n.b.c", b"_m.x.b.c", b"m"];
+    let permitted = vec![subtree(dns_name(b"d")), subtree(srv_name(b"_m.c"))];
+    let excluded = vec![subtree(srv_name(b"X.b.c"))];
     for number in 0..256 {
         let entry = |place: u32| srv_name(texts[number >> (2 * place) & 3]);
         let case = Case {
             san: san((0..4).map(entry).collect()).write(),
             constraints: constraints(permitted.clone(), excluded.clone()).write(),
-            references: record(SRV, b"m", b"b"),
+            references: record(SRV, b"m", b"b.c"),
             ..base()
         };
         take((format!("broken names {number}"), case));
@@ -383,7 +392,7 @@ fn trees() -> [Node; 3] {
         email(b"a@b"),
         dns_name(b"a.b"),
         other(),
-        srv_name(b"_m.b"),
+        srv_name(b"_m.a.b"),
         uri_name(b"h://a.b"),
         ip_address(b""),
     ];
@@ -410,7 +419,7 @@ fn with(input: usize, bytes: Vec<u8>) -> Case {
     let [san, subject, constraints] = trees();
     let references = [
         record(CN, b"", b"a.b"),
-        record(SRV, b"m", b"b"),
+        record(SRV, b"m", b"a.b"),
         record(URI, b"h", b"a.b"),
     ]
     .concat();
@@ -539,18 +548,35 @@ fn every_byte(take: Taker) {
             text[place] = value;
             for kind in [DNS, SRV, URI, CN] {
                 take(same(kind, &text, b"a.b"));
+                // One label, or two where the byte is a dot.
                 take(same(kind, b"s", &text));
-                let mut line = same(kind, b"s", &text);
-                line.1.references = record(
-                    kind,
-                    if matches!(kind, SRV | URI) { b"s" } else { b"" },
-                    b"abc",
-                );
-                take(line);
             }
+            take(wildcard(DNS, &text));
+            take(wildcard(CN, &text));
             constrained(&text, b"a.b").into_iter().for_each(&mut *take);
             constrained(b"s", &text).into_iter().for_each(&mut *take);
+            byte_in_a_label(take, b"", &text, b".d");
+            byte_in_a_label(take, b"d.", &text, b"");
         }
+    }
+}
+
+/// A domain with a byte changed in a label: in reference and presented
+/// identifier, in the latter alone, and both ways behind a wildcard.
+fn byte_in_a_label(take: Taker, before: &[u8], text: &[u8; 3], behind: &[u8]) {
+    let domain = [before, text, behind].concat();
+    let asked = [before, b"abc", behind].concat();
+    for kind in [DNS, SRV, URI, CN] {
+        let mut line = same(kind, b"s", &domain);
+        take(line.clone());
+        line.1.references = same(kind, b"s", &asked).1.references;
+        take(line);
+    }
+    for kind in [DNS, CN] {
+        let mut line = wildcard(kind, &domain);
+        take(line.clone());
+        line.1.references = wildcard(kind, &asked).1.references;
+        take(line);
     }
 }
 
@@ -573,24 +599,49 @@ fn texts(alphabet: &[u8], longest: usize) -> Vec<Vec<u8>> {
 /// Every small text as a name of each kind, and as a subtree.
 fn small_texts(take: Taker) {
     for text in texts(b"aA.-*0", 5) {
-        let domains: [&[u8]; 3] = [b"a", b"0.a", b"a.0.a"];
-        let references = domains.map(|domain| record(DNS, b"", domain));
+        let references = SMALL_DOMAINS.map(|domain| record(DNS, b"", domain));
         take(small("small dNSName", dns_name(&text), &references));
     }
+    for text in texts(b"a.*0", 5) {
+        let references = SMALL_DOMAINS.map(|domain| record(CN, b"", domain));
+        let mut line = small("small CN", email(b""), &references);
+        line.1.subject = subject(vec![rdn(vec![common_name(0x16, &text)])]).write();
+        take(line);
+    }
+    small_uris(take);
+    small_srv_names(take);
+}
+
+/// What the small texts are asked for; each has the two labels that a record
+/// needs.
+const SMALL_DOMAINS: [&[u8]; 4] = [b"a.a", b"0.a", b"a.0.a", b"0.a.a"];
+
+/// Every small text as the authority of a URI. The letter stands for a domain
+/// of two labels, so that there is room for other parts beside it.
+fn small_uris(take: Taker) {
     for text in texts(b"a:@/.0?#", 4) {
-        let references = [record(URI, b"a", b"a"), record(URI, b"a", b"a.0")];
-        let name = uri_name(&[b"A://", text.as_slice()].concat());
-        take(small("small URI", name, &references));
+        let references = [record(URI, b"a", b"a.a"), record(URI, b"a", b"a.a.0")];
+        let mut name = b"A://".to_vec();
+        for byte in text {
+            match byte {
+                b'a' => name.extend(b"a.a"),
+                _ => name.push(byte),
+            }
+        }
+        take(small("small URI", uri_name(&name), &references));
+    }
+}
+
+/// Every small text as an SRVName, alone and under a subtree, and as a subtree.
+fn small_srv_names(take: Taker) {
+    let references = [record(SRV, b"a", b"a.a"), record(SRV, b"a", b"0.a")];
+    for text in texts(b"_a.0", 6).into_iter().skip(1) {
+        take(small("small SRVName", srv_name(&text), &references));
     }
     let permitted = |text: &[u8]| constraints(vec![subtree(srv_name(text))], Vec::new()).write();
     for text in texts(b"_a.-0", 5).into_iter().skip(1) {
-        let references = [record(SRV, b"a", b"a"), record(SRV, b"a", b"0.a")];
-        take(small("small SRVName", srv_name(&text), &references));
-        let mut line = small(
-            "small SRVName under a subtree",
-            srv_name(&text),
-            &references,
-        );
+        let name = srv_name(&text);
+        let mut line = small("small SRVName under a subtree", name, &references);
         line.1.constraints = permitted(b"a");
         take(line);
         let mut line = small("small subtree", srv_name(b"_a.0.a"), &references);

@@ -1,11 +1,11 @@
 //! Drafts of cases: trees that can still be changed before they are written.
 
 use super::crowd::{alike_set, wide_set};
-use super::words::{near_miss, Pool};
+use super::words::{near_miss, one_label, Pool};
 use super::{Case, Random};
 use crate::longest;
 use crate::records::kind::{CN, DNS, SRV, URI};
-use crate::text::{is_domain, is_scheme, is_service};
+use crate::text::{has_two_labels, is_domain, is_scheme, is_service};
 use crate::tree::*;
 
 /// Three trees, each perhaps absent, and the records.
@@ -97,7 +97,7 @@ impl Draft {
             }
             2 => draft.constraints = Some(padded_constraints(longest::CONSTRAINTS - 2 + more)),
             _ => {
-                let mut bytes = record(DNS, b"", &pool.domain(random)).repeat(17);
+                let mut bytes = reference(random, pool, DNS).repeat(17);
                 bytes.truncate(*random.pick(&[5119, 5120, 5120, 5121, 5440]));
                 draft.references = vec![bytes];
             }
@@ -133,7 +133,8 @@ pub fn padded_constraints(size: usize) -> Node {
     constraints(vec![subtree(ip_address(&vec![0x5A; base]))], Vec::new())
 }
 
-/// One to sixteen records, seldom none or more; each seldom a broken one.
+/// One to sixteen records, seldom none or more; each seldom a broken one, and
+/// one of them in one case of forty with a domain of one label.
 pub fn references(random: &mut Random, pool: &Pool, kinds: &[u8]) -> Vec<Vec<u8>> {
     let count = match random.below(60) {
         0 => 0,
@@ -147,25 +148,39 @@ pub fn references(random: &mut Random, pool: &Pool, kinds: &[u8]) -> Vec<Vec<u8>
         let kind = *random.pick(kinds);
         reference(random, pool, kind)
     };
-    (0..count).map(|_| one(random)).collect()
+    let mut records: Vec<Vec<u8>> = (0..count).map(|_| one(random)).collect();
+    if count > 0 && random.one_in(40) {
+        let kind = *random.pick(&[DNS, SRV, URI, CN]);
+        let service = service(random, pool, kind);
+        records[random.below(count)] = record(kind, &service, &one_label(pool, random));
+    }
+    records
 }
 
 fn reference(random: &mut Random, pool: &Pool, kind: u8) -> Vec<u8> {
-    let service = match kind {
-        SRV => mostly(is_service, random, |random| pool.service(random)),
-        URI => mostly(is_scheme, random, |random| pool.scheme(random)),
-        _ => Vec::new(),
-    };
-    let domain = mostly(is_domain, random, |random| pool.domain(random));
+    let service = service(random, pool, kind);
+    let fits = |word: &[u8]| is_domain(word) && has_two_labels(word);
+    let domain = mostly(fits, b"a.b", random, |random| pool.asked(random));
     if random.one_in(150) {
         return broken_record(random, kind, &service, &domain);
     }
     record(kind, &service, &domain)
 }
 
-/// A word that passes the test, save one in eight of those that do not.
+/// The service or scheme of a record of this kind.
+fn service(random: &mut Random, pool: &Pool, kind: u8) -> Vec<u8> {
+    match kind {
+        SRV => mostly(is_service, b"a", random, |random| pool.service(random)),
+        URI => mostly(is_scheme, b"a", random, |random| pool.scheme(random)),
+        _ => Vec::new(),
+    }
+}
+
+/// A word that passes the test, save one in eight of those that do not; for
+/// the rest another one.
 fn mostly(
     test: fn(&[u8]) -> bool,
+    other: &[u8],
     random: &mut Random,
     word: impl Fn(&mut Random) -> Vec<u8>,
 ) -> Vec<u8> {
@@ -173,7 +188,7 @@ fn mostly(
     if test(&word) || random.one_in(8) {
         return word;
     }
-    b"a".to_vec()
+    other.to_vec()
 }
 
 /// A record that is, in nearly all cases, not readable.
@@ -207,7 +222,7 @@ fn dns_text(random: &mut Random, pool: &Pool) -> Vec<u8> {
     let text = pool.dns_id(random);
     match random.below(12) {
         0 => Vec::new(),
-        1..=4 => near_miss(random, text),
+        1..=3 => near_miss(random, text),
         _ => text,
     }
 }
@@ -305,7 +320,7 @@ pub fn any_attribute(random: &mut Random, pool: &Pool) -> Node {
 /// A CN's value: a DNS-ID, a near miss, or one with a byte that no name has.
 fn cn_text(random: &mut Random, pool: &Pool) -> Vec<u8> {
     let mut text = pool.dns_id(random);
-    match random.below(14) {
+    match random.below(18) {
         0 => text.extend(b"\0.example"),
         1 => text.push(*random.pick(b"\0 ")),
         2 => {

@@ -3,6 +3,7 @@
 
 use super::Random;
 use crate::examples::domain_of;
+use crate::text::has_two_labels;
 
 const LABELS: [&str; 15] = [
     "a", "b", "desk", "branch", "example", "1", "0x", "xn--p1ai", "ab--c", "a-b", "www", "host",
@@ -51,11 +52,22 @@ impl Pool {
         other_case(random, domain)
     }
 
+    /// A domain with the two labels that a record needs, which the third of the
+    /// pool always has; perhaps in other letter case.
+    pub fn asked(&self, random: &mut Random) -> Vec<u8> {
+        let domain = random.pick(&self.domains);
+        let asked = match has_two_labels(domain) {
+            true => domain.clone(),
+            false => self.domains[2].clone(),
+        };
+        other_case(random, asked)
+    }
+
     /// A domain, or one with its first label made a wildcard.
     pub fn dns_id(&self, random: &mut Random) -> Vec<u8> {
         let domain = self.domain(random);
         match domain.iter().position(|&byte| byte == b'.') {
-            Some(dot) if random.one_in(3) => [b"*", &domain[dot..]].concat(),
+            Some(dot) if random.below(5) < 2 => [b"*", &domain[dot..]].concat(),
             _ => domain,
         }
     }
@@ -98,6 +110,15 @@ impl Pool {
     }
 }
 
+/// One label, mostly the last of a domain of the pool.
+pub fn one_label(pool: &Pool, random: &mut Random) -> Vec<u8> {
+    let domain = pool.domain(random);
+    match domain.rsplit(|&byte| byte == b'.').next() {
+        Some(last) if !random.one_in(4) => last.to_vec(),
+        _ => label(random),
+    }
+}
+
 /// A domain of one to three labels, now and then like an address or of many
 /// labels.
 fn base_domain(random: &mut Random) -> Vec<u8> {
@@ -107,7 +128,7 @@ fn base_domain(random: &mut Random) -> Vec<u8> {
         _ => {}
     }
     let mut domain = label(random);
-    for _ in 0..random.below(3) {
+    for _ in 0..*random.pick(&[0, 1, 1, 2, 2]) {
         domain = joined(label(random), &domain);
     }
     domain

@@ -82,11 +82,11 @@ fn entries(take: Taker, before: usize) {
 
 /// An SRVName that breaks the constraints, behind others that keep them.
 fn kept_names(take: Taker, before: usize) {
-    for last in [b"_n.b".as_slice(), b"_m.c", b"_m.b.", b"_m.b"] {
+    for last in [b"_n.b.c".as_slice(), b"_m.b", b"_m.b.c.", b"_m.b.c"] {
         let case = Case {
-            san: san(behind(&srv_name(b"_m.b"), before, srv_name(last))).write(),
-            constraints: constraints(vec![subtree(srv_name(b"_M.B"))], Vec::new()).write(),
-            references: record(SRV, b"m", b"b"),
+            san: san(behind(&srv_name(b"_m.b.c"), before, srv_name(last))).write(),
+            constraints: constraints(vec![subtree(srv_name(b"_M.C"))], Vec::new()).write(),
+            references: record(SRV, b"m", b"b.c"),
             ..base()
         };
         take((format!("SRVName behind {before} that are kept"), case));
