@@ -48,11 +48,14 @@
  *   byte 3          the domain's length
  *   bytes 4 to 66   SRV: the service, without its "_": 1 to 62 letters, digits and hyphens, no hyphen at either end.
  *                   URI: the scheme, without its ":": 1 to 63 bytes, a letter and then letters, digits, "+", "-" and "."
- *   bytes 67 to 319 the domain: at most 253 bytes, one or more labels joined by single dots; a label is 1 to 63 letters, digits and
+ *   bytes 67 to 319 the domain: at most 253 bytes, two or more labels joined by single dots; a label is 1 to 63 letters, digits and
  *                   hyphens, no hyphen at either end. So no trailing dot, no "_" and no "*"; international names as xn-- labels
  *
  * What the service and the domain leave free of their fields is 0. Letters are those of ASCII, of either case. One record that is
  * not good, no record at all, or a length that is no multiple of 320 makes all of them unreadable (6); more than 5,120 bytes are 7.
+ *
+ * WILDCARDS. A dNSName or a CN may begin with "*.", which stands for one whole label, and then has two labels or more behind it:
+ * "*.branch.example" matches a reference "desk.branch.example", and "*.example" matches none.
  */
 #ifndef BECKETHAND_H
 #define BECKETHAND_H

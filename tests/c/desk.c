@@ -1,4 +1,4 @@
-/* Document 01's desk examples, its old faults, every answer, and what the header says of unreadable strings, records and rows,
+/* Document 01's desk examples, those of document 02's requests, old faults, every answer, and what the header says of unreadable strings, records and rows,
  * through the archive as a kiosk's C program calls it.
  *
  * Each input lies in an allocation of exactly its size, and a second time at the very end of a page that is followed by one that
@@ -166,7 +166,8 @@ static void expect_list(const char *name, struct bytes b, size_t which, size_t l
 
 #define S "30 05 82 03 61 2E 62"
 #define J "30 0E 31 0C 30 0A 06 03 55 04 03 0C 03 61 2E 62"
-#define SRV "30 14 A0 12 06 08 2B 06 01 05 05 07 08 07 A0 06 16 04 5F 6D 2E 62"
+#define SRV_B "30 14 A0 12 06 08 2B 06 01 05 05 07 08 07 A0 06 16 04 5F 6D 2E 62"
+#define SRV "30 16 A0 14 06 08 2B 06 01 05 05 07 08 07 A0 08 16 06 5F 6D 2E 62 2E 63"
 #define PERMITS "30 16 A0 14 30 12 A0 10 06 08 2B 06 01 05 05 07 08 07 A0 04 16 02 5F 6D"
 #define PERMITS_N "30 16 A0 14 30 12 A0 10 06 08 2B 06 01 05 05 07 08 07 A0 04 16 02 5F 6E"
 
@@ -186,11 +187,11 @@ static void desk_examples(void) {
     c = with("30 81 05 82 03 61 2E 62", J, "", record(BECKETHAND_DNS, "", "a.b"));
     expect("a length that is not shortest", c, 3, 0, 0, 0, 0);
     expect("an empty SEQUENCE", with("30 00", J, "", record(BECKETHAND_DNS, "", "a.b")), 3, 0, 0, 0, 0);
-    c = with(SRV, J, "", record(BECKETHAND_SRV, "m", "b"));
-    expect("SRV", c, 0, 0, 0, 2, 20);
-    expect_text("SRV", c, false, "_m.b");
-    expect("SRV permitted", with(SRV, J, PERMITS, record(BECKETHAND_SRV, "m", "b")), 0, 0, 0, 2, 20);
-    c = with(SRV, J, PERMITS_N, record(BECKETHAND_SRV, "m", "b"));
+    c = with(SRV, J, "", record(BECKETHAND_SRV, "m", "b.c"));
+    expect("SRV", c, 0, 0, 0, 2, 22);
+    expect_text("SRV", c, false, "_m.b.c");
+    expect("SRV permitted", with(SRV, J, PERMITS, record(BECKETHAND_SRV, "m", "b.c")), 0, 0, 0, 2, 22);
+    c = with(SRV, J, PERMITS_N, record(BECKETHAND_SRV, "m", "b.c"));
     expect("SRV not permitted", c, 2, 0, 0, 0, 0);
     expect_text("SRV not permitted", c, false, "");
     /* SAN: URI `x://u@a.b:8/p` */
@@ -216,6 +217,45 @@ static void old_faults(void) {
     put_record(two.at, BECKETHAND_DNS, "", "a.b");
     put_record(two.at + BECKETHAND_RECORD_SIZE, BECKETHAND_DNS, "", "c.d");
     expect("the lowest reference, then the lowest name", with("30 0A 82 03 63 2E 64 82 03 61 2E 62", J, "", two), 0, 0, 1, 7, 5);
+}
+
+/* 1/13: "a wildcard needs at least two labels after it", and so does a record */
+static void one_label(void) {
+    const char *wild_b = "30 05 82 03 2A 2E 62", *wild_bc = "30 07 82 05 2A 2E 62 2E 63";
+    expect_zeros("*.b, DNS", with(wild_b, J, "", record(BECKETHAND_DNS, "", "a.b")), BECKETHAND_MISMATCH);
+    expect_zeros("*.b, CN", with(wild_b, J, "", record(BECKETHAND_CN, "", "a.b")), BECKETHAND_MISMATCH);
+    expect("*.b.c, DNS", with(wild_bc, J, "", record(BECKETHAND_DNS, "", "a.b.c")), 0, 0, 0, 2, 7);
+    expect_zeros("*.b.c for b.c", with(wild_bc, J, "", record(BECKETHAND_DNS, "", "b.c")), BECKETHAND_MISMATCH);
+    /* the CNs `*.b` and `*.b.c` */
+    expect_zeros("CN *.b",
+                 with("", "30 0E 31 0C 30 0A 06 03 55 04 03 0C 03 2A 2E 62", "", record(BECKETHAND_CN, "", "a.b")),
+                 BECKETHAND_MISMATCH);
+    expect("CN *.b.c",
+           with("", "30 10 31 0E 30 0C 06 03 55 04 03 0C 05 2A 2E 62 2E 63", "", record(BECKETHAND_CN, "", "a.b.c")),
+           0, 0, 0, 4, 14);
+    expect_zeros("SRV m, b", with(SRV_B, J, "", record(BECKETHAND_SRV, "m", "b")), BECKETHAND_REFERENCES_UNREADABLE);
+    /* `b` is permitted */
+    expect_zeros("_m.b under b",
+                 with(SRV_B, J, "30 15 A0 13 30 11 A0 0F 06 08 2B 06 01 05 05 07 08 07 A0 03 16 01 62",
+                      record(BECKETHAND_DNS, "", "a.b")),
+                 BECKETHAND_MISMATCH);
+}
+
+/* labels of 63 and 64 bytes, before a second label */
+static void long_labels(void) {
+    for (size_t n = 63; n <= 64; n++) {
+        char domain[67] = {0};
+        memset(domain, 'a', n);
+        memcpy(domain + n, ".b", 2);
+        struct certificate c = {zeros(n + 6), from_hex(J), {NULL, 0}, record(BECKETHAND_DNS, "", domain)};
+        const uint8_t headers[4] = {0x30, (uint8_t)(n + 4), 0x82, (uint8_t)(n + 2)};
+        memcpy(c.san.at, headers, sizeof headers);
+        memcpy(c.san.at + 4, domain, n + 2);
+        if (n == 63)
+            expect("a label of 63 bytes", c, 0, 0, 0, 2, 67);
+        else
+            expect_zeros("a label of 64 bytes", c, BECKETHAND_REFERENCES_UNREADABLE);
+    }
 }
 
 static void sizes(void) {
@@ -260,7 +300,7 @@ static void order_of_answers(void) {
     expect_zeros("4 before 5", with(S, "", "30 00", dns), BECKETHAND_SUBJECT_UNREADABLE);
     expect_zeros("no subject, and no SAN", with("", "", "", dns), BECKETHAND_SUBJECT_UNREADABLE);
     expect_zeros("5", with(S, J, "30 00", dns), BECKETHAND_CONSTRAINTS_UNREADABLE);
-    expect_zeros("2", with(SRV, J, PERMITS_N, record(BECKETHAND_SRV, "m", "b")), BECKETHAND_CONSTRAINTS_BROKEN);
+    expect_zeros("2", with(SRV, J, PERMITS_N, record(BECKETHAND_SRV, "m", "b.c")), BECKETHAND_CONSTRAINTS_BROKEN);
     expect_zeros("1", with(S, J, "", record(BECKETHAND_DNS, "", "a.c")), BECKETHAND_MISMATCH);
     expect("a subject without names", with(S, "30 00", "", dns), BECKETHAND_MATCH, 0, 0, 2, 5);
 }
@@ -315,6 +355,9 @@ static void records(void) {
     expect_record("record 1", b, 1, 0, 4, 0, 9);
     expect_record("past the last", b, 2, 0, 0, 0, 0);
     expect_record("far past the last", b, SIZE_MAX, 0, 0, 0, 0);
+    put_record(b.at + BECKETHAND_RECORD_SIZE, BECKETHAND_CN, "", "c");
+    expect_record("one label beside a good record", b, 0, 6, 0, 0, 0);
+    put_record(b.at + BECKETHAND_RECORD_SIZE, BECKETHAND_CN, "", "c.example");
     b.at[1] = 1;
     expect_record("byte 1 is not 0", b, 1, 6, 0, 0, 0);
     expect_bad("no records", (struct bytes){NULL, 0});
@@ -327,20 +370,24 @@ static void records(void) {
 static void good_and_bad_records(void) {
     const char *domain_253 = SIXTY "abc." SIXTY "abc." SIXTY "abc." SIXTY "a";
     expect_record("a domain of 253 bytes", record(BECKETHAND_DNS, "", domain_253), 0, 0, 1, 0, BECKETHAND_DOMAIN_SIZE);
-    expect_record("a service of 62 bytes", record(BECKETHAND_SRV, SIXTY "ab", "b"), 0, 0, 2, 62, 1);
-    expect_record("a scheme of 63 bytes", record(BECKETHAND_URI, SIXTY "+-.", "b"), 0, 0, 3, BECKETHAND_SERVICE_SIZE, 1);
+    expect_record("a service of 62 bytes", record(BECKETHAND_SRV, SIXTY "ab", "b.c"), 0, 0, 2, 62, 3);
+    expect_record("a scheme of 63 bytes", record(BECKETHAND_URI, SIXTY "+-.", "b.c"), 0, 0, 3, BECKETHAND_SERVICE_SIZE, 3);
     expect_bad("a domain of no bytes", record(BECKETHAND_DNS, "", ""));
     expect_bad("a trailing dot", record(BECKETHAND_DNS, "", "a.b."));
     expect_bad("an underscore", record(BECKETHAND_DNS, "", "_a.b"));
     expect_bad("a wildcard", record(BECKETHAND_DNS, "", "*.a.b"));
+    expect_bad("DNS of one label", record(BECKETHAND_DNS, "", "b"));
+    expect_bad("SRV of one label", record(BECKETHAND_SRV, "m", "b"));
+    expect_bad("URI of one label", record(BECKETHAND_URI, "m", "b"));
+    expect_bad("CN of one label", record(BECKETHAND_CN, "", "b"));
     expect_bad("a hyphen at an end", record(BECKETHAND_DNS, "", "a-.b"));
     expect_bad("a label of 64 bytes", record(BECKETHAND_DNS, "", SIXTY "abcd.b"));
-    expect_bad("DNS with a service", record(BECKETHAND_DNS, "m", "b"));
-    expect_bad("CN with a service", record(BECKETHAND_CN, "m", "b"));
-    expect_bad("SRV without a service", record(BECKETHAND_SRV, "", "b"));
-    expect_bad("a service with its underscore", record(BECKETHAND_SRV, "_m", "b"));
-    expect_bad("a service of 63 bytes", record(BECKETHAND_SRV, SIXTY "abc", "b"));
-    expect_bad("a scheme that begins with a digit", record(BECKETHAND_URI, "1a", "b"));
+    expect_bad("DNS with a service", record(BECKETHAND_DNS, "m", "b.c"));
+    expect_bad("CN with a service", record(BECKETHAND_CN, "m", "b.c"));
+    expect_bad("SRV without a service", record(BECKETHAND_SRV, "", "b.c"));
+    expect_bad("a service with its underscore", record(BECKETHAND_SRV, "_m", "b.c"));
+    expect_bad("a service of 63 bytes", record(BECKETHAND_SRV, SIXTY "abc", "b.c"));
+    expect_bad("a scheme that begins with a digit", record(BECKETHAND_URI, "1a", "b.c"));
     expect_bad("kind 0", record(0, "", "a.b"));
     expect_bad("kind 5", record(5, "", "a.b"));
     struct bytes b = record(BECKETHAND_DNS, "", "a.b");
@@ -352,7 +399,7 @@ static void good_and_bad_records(void) {
 }
 
 static void listings(void) {
-    struct beckethand_row s = {2, 2, 5, 0}, j = {10, 4, 12, 0}, srv = {9, 2, 20, 0}, subtree = {9, 6, 18, 0};
+    struct beckethand_row s = {2, 2, 5, 0}, j = {10, 4, 12, 0}, srv = {9, 2, 22, 0}, subtree = {9, 6, 18, 0};
     expect_list("S", from_hex(S), BECKETHAND_LIST_SAN, 3, 0, 1, &s);
     expect_list("S, no room", from_hex(S), BECKETHAND_LIST_SAN, 0, 8, 1, NULL);
     expect_list("J", from_hex(J), BECKETHAND_LIST_SUBJECT, 1, 0, 1, &j);
@@ -401,6 +448,8 @@ static void kinds_of_rows(void) {
 int main(void) {
     desk_examples();
     old_faults();
+    one_label();
+    long_labels();
     sizes();
     order_of_answers();
     outside_the_grammar();

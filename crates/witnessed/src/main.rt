@@ -1,13 +1,13 @@
 // Asks for the witness of fixed certificates: for each a line with the verdict's five numbers, where the witness's text starts in its
-// string and how long it is, and the text itself, as it was handed back. The references are DNS, SRV, URI and CN, all for `a.b`, with
-// the service or scheme `m`. The stored output is held, line by line, to the second program's (tests/second/tests/stored.rs).
+// string and how long it is, and the text itself, as it was handed back. The references are DNS, SRV, URI and CN, all for `a.b.c`,
+// with the service or scheme `m`. The stored output is held, line by line, to the second program's (tests/second/tests/stored.rs).
 use libc::STDOUT_FILENO;
 ghost use Prim.Native.Nat.{_≤_};
 
 const REFERENCES: usize = 4 * rules::RECORD_SIZE;
 
-// Document 01's J: a subject with the CN `a.b`.
-const J: [u8; 16] = *b"\x30\x0E\x31\x0C\x30\x0A\x06\x03\x55\x04\x03\x0C\x03\x61\x2E\x62";
+// A subject with the CN `a.b.c`.
+const SUBJECT: [u8; 18] = *b"\x30\x10\x31\x0E\x30\x0C\x06\x03\x55\x04\x03\x0C\x05a.b.c";
 
 // Writes a record over zeros, with the service `m` where the length asks for one.
 fn put(b: &mut [u8; REFERENCES], at: usize, kind: u8, service: u8)
@@ -15,13 +15,15 @@ fn put(b: &mut [u8; REFERENCES], at: usize, kind: u8, service: u8)
 {
     b[at] = kind;
     b[at + 2] = service;
-    b[at + 3] = 3;
+    b[at + 3] = 5;
     if service == 1 {
         b[at + 4] = b'm';
     }
     b[at + 67] = b'a';
     b[at + 68] = b'.';
     b[at + 69] = b'b';
+    b[at + 70] = b'.';
+    b[at + 71] = b'c';
 }
 
 fn write_number(before: &[u8], n: usize) {
@@ -72,37 +74,42 @@ fn show<'a>(title: &[u8], san: &'a [u8], subject: &'a [u8], constraints: &[u8]) 
 
 // Matches in the SAN.
 fn in_san() {
-    show(b"dNSName", b"\x30\x05\x82\x03a.b", &J, b"");
-    show(b"wildcard", b"\x30\x05\x82\x03*.b", &J, b"");
-    show(b"second name", b"\x30\x0A\x82\x03x.b\x82\x03A.B", &J, b"");
+    show(b"dNSName", b"\x30\x07\x82\x05a.b.c", &SUBJECT, b"");
+    show(b"wildcard", b"\x30\x07\x82\x05*.b.c", &SUBJECT, b"");
     show(
-        b"SRVName",
-        b"\x30\x16\xA0\x14\x06\x08\x2B\x06\x01\x05\x05\x07\x08\x07\xA0\x08\x16\x06_m.a.b",
-        &J,
+        b"second name",
+        b"\x30\x0E\x82\x05x.b.c\x82\x05A.B.C",
+        &SUBJECT,
         b"",
     );
-    show(b"URI", b"\x30\x09\x86\x07m://a.b", &J, b"");
+    show(
+        b"SRVName",
+        b"\x30\x18\xA0\x16\x06\x08\x2B\x06\x01\x05\x05\x07\x08\x07\xA0\x0A\x16\x08_m.a.b.c",
+        &SUBJECT,
+        b"",
+    );
+    show(b"URI", b"\x30\x0B\x86\x09m://a.b.c", &SUBJECT, b"");
 }
 
 // Matches in the subject.
 fn in_subject() {
-    show(b"CN", b"", &J, b"");
+    show(b"CN", b"", &SUBJECT, b"");
     show(
         b"CN of the second set",
         b"\x30\x03\x81\x01@",
-        b"\x30\x18\x31\x08\x30\x06\x06\x01\x2A\x0C\x01\x62\x31\x0C\x30\x0A\x06\x03\x55\x04\x03\x13\x03*.b",
+        b"\x30\x1A\x31\x08\x30\x06\x06\x01\x2A\x0C\x01\x62\x31\x0E\x30\x0C\x06\x03\x55\x04\x03\x13\x05*.b.c",
         b"",
     );
 }
 
 // No match: another name, an unreadable SAN, and an SRVName outside the only permitted subtree.
 fn nowhere() {
-    show(b"mismatch", b"\x30\x05\x82\x03x.b", &J, b"");
-    show(b"unreadable", b"\x30\x00", &J, b"");
+    show(b"mismatch", b"\x30\x07\x82\x05x.b.c", &SUBJECT, b"");
+    show(b"unreadable", b"\x30\x00", &SUBJECT, b"");
     show(
         b"constraints broken",
-        b"\x30\x16\xA0\x14\x06\x08\x2B\x06\x01\x05\x05\x07\x08\x07\xA0\x08\x16\x06_m.a.b",
-        &J,
+        b"\x30\x18\xA0\x16\x06\x08\x2B\x06\x01\x05\x05\x07\x08\x07\xA0\x0A\x16\x08_m.a.b.c",
+        &SUBJECT,
         b"\x30\x16\xA0\x14\x30\x12\xA0\x10\x06\x08\x2B\x06\x01\x05\x05\x07\x08\x07\xA0\x04\x16\x02_n",
     );
 }
