@@ -77,22 +77,22 @@ fn good_record(b: &[u8]) -> bool
     if b[1] != 0 {
         return false;
     }
-    let n = wide(b[SERVICE_LENGTH_AT]);
-    let fits = filled(&b[SERVICE_AT..SERVICE_AT + SERVICE_SIZE], n);
+    let service_length = wide(b[SERVICE_LENGTH_AT]);
+    let fits = filled(&b[SERVICE_AT..SERVICE_AT + SERVICE_SIZE], service_length);
     if !fits {
         return false;
     }
-    let m = wide(b[DOMAIN_LENGTH_AT]);
-    let fits = filled(&b[DOMAIN_AT..DOMAIN_AT + DOMAIN_SIZE], m);
+    let domain_length = wide(b[DOMAIN_LENGTH_AT]);
+    let fits = filled(&b[DOMAIN_AT..DOMAIN_AT + DOMAIN_SIZE], domain_length);
     if !fits {
         return false;
     }
-    let service = &b[SERVICE_AT..SERVICE_AT + n];
+    let service = &b[SERVICE_AT..SERVICE_AT + service_length];
     let good = good_service(b[0], service);
     if !good {
         return false;
     }
-    let domain = &b[DOMAIN_AT..DOMAIN_AT + m];
+    let domain = &b[DOMAIN_AT..DOMAIN_AT + domain_length];
     let good = names::domain(domain);
     if !good {
         return false;

@@ -95,6 +95,7 @@ dotted-longer b [] = refl
 dotted-longer b (l ∷ []) = refl
 dotted-longer b (l ∷ m ∷ ls) = refl
 
+-- a text has a label
 longer-some : (b : ℕ) (ls : List (List ℕ)) → T (some? (longer b ls))
 unfolding longer
 longer-some b [] = tt
@@ -105,6 +106,10 @@ unfolding labels
 labels-some [] = tt
 labels-some (b ∷ s) = by-cases (eqb b dot) (λ e. rw e tt) (λ e. rw e (longer-some b (labels s)))
 
+some-long : (ls : List (List ℕ)) → T (some? ls) → 1 ≤ length ls
+some-long [] h = absurd h
+some-long (l ∷ ls) h = omega arith
+
 -- a text is its labels joined by dots
 dotted-labels : (t : List ℕ) → dotted (labels t) ≡ t
 unfolding labels
@@ -113,10 +118,6 @@ dotted-labels (b ∷ s) =
     by-cases (eqb b dot)
     (λ e. rw e (dotted-dot (labels s) (labels-some s) ∙ rw (dotted-labels s, eqb-true b dot e)))
     (λ e. rw e (dotted-longer b (labels s) ∙ ap (λ l. b ∷ l) (dotted-labels s)))
-
-some-long : (ls : List (List ℕ)) → T (some? ls) → 1 ≤ length ls
-some-long [] h = absurd h
-some-long (l ∷ ls) h = omega arith
 
 -- a text with a dot is cut at its first
 cut-at-dot : (t : List ℕ) → any (is dot) t ≡ true → t ≡ before (is dot) t ++ (text "." ++ after (is dot) t)
