@@ -1,5 +1,5 @@
-/* Document 01's desk examples, those of document 02's requests, old faults, every answer, and what the header says of unreadable strings, records and rows,
- * through the archive as a kiosk's C program calls it.
+/* Document 01's desk examples, those of document 02's requests, old faults, every answer, and what the header says of unreadable
+ * strings, records and rows, through the archive as a kiosk's C program calls it.
  *
  * Each input lies in an allocation of exactly its size, and a second time at the very end of a page that is followed by one that
  * may not be touched: a read past the input's end stops the program.
@@ -226,6 +226,9 @@ static void one_label(void) {
     expect_zeros("*.b, CN", with(wild_b, J, "", record(BECKETHAND_CN, "", "a.b")), BECKETHAND_MISMATCH);
     expect("*.b.c, DNS", with(wild_bc, J, "", record(BECKETHAND_DNS, "", "a.b.c")), 0, 0, 0, 2, 7);
     expect_zeros("*.b.c for b.c", with(wild_bc, J, "", record(BECKETHAND_DNS, "", "b.c")), BECKETHAND_MISMATCH);
+    /* `*.example` */
+    expect_zeros("*.example", with("30 0B 82 09 2A 2E 65 78 61 6D 70 6C 65", J, "", record(BECKETHAND_DNS, "", "branch.example")),
+                 BECKETHAND_MISMATCH);
     /* the CNs `*.b` and `*.b.c` */
     expect_zeros("CN *.b",
                  with("", "30 0E 31 0C 30 0A 06 03 55 04 03 0C 03 2A 2E 62", "", record(BECKETHAND_CN, "", "a.b")),
@@ -377,6 +380,7 @@ static void good_and_bad_records(void) {
     expect_bad("an underscore", record(BECKETHAND_DNS, "", "_a.b"));
     expect_bad("a wildcard", record(BECKETHAND_DNS, "", "*.a.b"));
     expect_bad("DNS of one label", record(BECKETHAND_DNS, "", "b"));
+    expect_bad("DNS of one longer label", record(BECKETHAND_DNS, "", "example"));
     expect_bad("SRV of one label", record(BECKETHAND_SRV, "m", "b"));
     expect_bad("URI of one label", record(BECKETHAND_URI, "m", "b"));
     expect_bad("CN of one label", record(BECKETHAND_CN, "", "b"));

@@ -31,6 +31,10 @@ cn = recordBytes 4 [] 63 (text "a.b") 250
 
 -- ---- names
 
+-- n letters
+abbrev pub letters : ℕ → List ℕ
+letters n = replicate n 0x61
+
 abbrev srvName : List ℕ → San.GeneralName
 srvName t = San.other San.srvOid 0x16 t
 
@@ -235,6 +239,12 @@ abbrev pub wildcardOver2 : List ℕ → Verdict → Certificate
 wildcardOver2 references numbers =
     bySan (hex "30 07 82 05 2A 2E 62 2E 63") (San.plain 0x82 (text "*.b.c") ∷ []) references numbers
 
+-- "A supplier shipped a test certificate for `*.example` and it opened every branch."
+abbrev pub wildcardOverExample : Certificate
+wildcardOverExample =
+    bySan (hex "30 0B 82 09 2A 2E 65 78 61 6D 70 6C 65") (San.plain 0x82 (text "*.example") ∷ [])
+    (recordBytes 1 [] 63 (text "branch.example") 239) (numbers 1 0 0 0 0)
+
 -- "and CN-ID"
 abbrev pub cnOver1 : Certificate
 cnOver1 =
@@ -258,7 +268,7 @@ oneLabelKept =
 -- "Labels of 63 and 64 bytes", each with a second label
 abbrev pub longLabel : ℕ → ℕ → Verdict → Certificate
 longLabel n fill numbers =
-    let name : List ℕ = replicate n 0x61 ++ text ".b" in
+    let name : List ℕ = letters n ++ text ".b" in
     bySan (0x30 ∷ (n + 4) ∷ 0x82 ∷ (n + 2) ∷ name) (San.plain 0x82 name ∷ []) (recordBytes 1 [] 63 name fill) numbers
 
 -- ---- rows

@@ -4,7 +4,7 @@ use Prim.Native.Nat.{ℕ, _<_}
 use mathlib.Core.Bool.{Bool, true, false, cond}
 use mathlib.Core.Logic.{_↔_}
 use mathlib.Core.List.{List, [], _∷_, _++_}
-use lib.ListN.{length, drop, replicate}
+use lib.ListN.{length, drop}
 use lib.Dec.{T, ltb, lt→ltb, ltb→lt}
 use Rattle.rules.specs.Bytes.{part, same, begins, before, after, ascii, upTo}
 use Rattle.rules.specs.Names
@@ -24,12 +24,9 @@ use Rattle.rules.proofs.Test.{all-hold}
 use Rattle.rules.proofs.Holds.{Certificate, Example, subtree, dnsName, tested, written, verdict, refused, sanRows, subjectRows, constraintsRows, listing, All, recordBytes}
 use Rattle.rules.proofs.Joined.{dotted}
 use Rattle.rules.proofs.Certificates
-use Rattle.rules.proofs.Certificates.{attribute, side}
+use Rattle.rules.proofs.Certificates.{letters, attribute, side}
 
--- n letters, and labels of them with dots between
-abbrev letters : ℕ → List ℕ
-letters n = replicate n 0x61
-
+-- labels of so many letters with dots between
 abbrev labelled : ℕ → ℕ → ℕ → ℕ → List ℕ
 labelled a b c d = dotted (letters a ∷ letters b ∷ letters c ∷ letters d ∷ [])
 
@@ -75,6 +72,7 @@ domains =
     ∷ tested (Names.dnsId (text "*")) false
     -- 1/13: "a wildcard needs at least two labels after it"
     ∷ tested (Names.dnsId (text "*.a")) false
+    ∷ tested (Names.dnsId (text "*.example")) false
     ∷ tested (Names.dnsId (text "*.a.b")) true
     -- "Letters compare without case": no byte beside A to Z folds
     ∷ dnsName (text "A.Z") (text "a.z") true
@@ -165,7 +163,9 @@ records =
     ∷ shows (recordBytes 2 (text "m") 62 (text "b") 252) 0 6 0 0 0
     ∷ shows (recordBytes 3 (text "m") 62 (text "b") 252) 0 6 0 0 0
     ∷ shows (recordBytes 4 [] 63 (text "b") 252) 0 6 0 0 0
-    ∷ shows (recordBytes 1 [] 63 (text "a.b") 250 ++ recordBytes 1 [] 63 (text "b") 252) 0 6 0 0 0
+    ∷ shows (recordBytes 1 [] 63 (text "example") 246) 0 6 0 0 0
+    ∷ shows (Certificates.dns ++ recordBytes 1 [] 63 (text "b") 252) 0 6 0 0 0
+    ∷ shows (recordBytes 1 [] 63 (text "b") 252 ++ Certificates.dns) 1 6 0 0 0
     -- "that record's kind and two lengths, zeros on a refusal or past the last"
     ∷ shows (recordBytes 2 (text "m") 62 (text "a.b") 250) 0 0 2 1 3
     ∷ shows (recordBytes 2 (text "m") 62 (text "a.b") 250) 1 0 0 0 0
@@ -259,6 +259,7 @@ verdicts =
     ∷ verdict Certificates.cnNotCut
     ∷ verdict (Certificates.wildcardOver1 Certificates.dns)
     ∷ verdict (Certificates.wildcardOver1 Certificates.cn)
+    ∷ verdict Certificates.wildcardOverExample
     ∷ verdict (Certificates.wildcardOver2 (recordBytes 1 [] 63 (text "a.b.c") 248) (numbers 0 0 0 2 7))
     ∷ verdict (Certificates.wildcardOver2 (recordBytes 1 [] 63 (text "b.c") 250) (numbers 1 0 0 0 0))
     ∷ verdict Certificates.cnOver1

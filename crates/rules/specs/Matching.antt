@@ -42,7 +42,8 @@ unfoldable pub cnText : List (Member Attribute) → Member Attribute → Option 
 cnText subject m =
     cond (isCn (m .value) && cnTag (m .value .tag) && soleCn subject (m .group)) (some (m .value .content)) none
 
--- "CN references count only if the SAN has no entry tagged 82 or 86 and no SRVName, readable as a name or not."
+-- "CN references count only if the SAN has no entry tagged 82 or 86 and no SRVName, readable as a name or not." 1/13: "A dNSName
+-- that is no longer a DNS-ID still blocks the CN."
 unfoldable pub blocksCn : GeneralName → Bool
 blocksCn (plain t c) = eqb t 0x82 || eqb t 0x86
 blocksCn (other o t c) = same o srvOid

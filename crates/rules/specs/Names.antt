@@ -87,7 +87,7 @@ labels (b ∷ s) = cond (eqb b dot) ([] ∷ labels s) (longer b (labels s))
 unfoldable pub domain : List ℕ → Bool
 domain s = leb (length s) 253 && all label (labels s)
 
--- 1/13: "at least two labels"
+-- 1/13: "at least two labels". No part of a domain: "Restrictions and presented names without a wildcard may keep one label"
 unfoldable pub twoLabels : List ℕ → Bool
 twoLabels s = leb 2 (length (labels s))
 
