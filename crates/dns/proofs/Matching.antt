@@ -12,7 +12,8 @@ use Rattle.octets.proofs.Cases.{by-cases}
 use Rattle.octets.proofs.Compare.{same-equal}
 use Rattle.names.proofs.Labels.{others, labels-are, same-domain}
 use Rattle.names.proofs.Runs.{run-stops}
-use Rattle.rules.specs.Bytes.{all, any, same, begins, before, after}
+use Rattle.rules.proofs.Labels.{domain-first}
+use Rattle.rules.specs.Bytes.{any, same, begins, before, after}
 use Rattle.rules.specs.Names as rules
 use Rattle.rules.specs.Names.{is, star, dot, label, labels, domain, sameText, sameLabels, sameDomain, wildcard, dnsId, leftmostMatches, labelsMatch, dnsMatches}
 use Rattle.names.specs.Label.{outside}
@@ -34,9 +35,8 @@ wild-is (x ∷ y ∷ t) e =
 
 -- a text that begins with a star is no domain
 star-first : (t : List ℕ) → domain (star ∷ t) ≡ false
-unfolding domain before outside rules.letterDigitHyphen rules.letter rules.digit
-star-first t =
-    rw (run-stops (star ∷ t) 0 refl (omega arith) (λ e. omega arith)) (and-false (leb (length (star ∷ t)) 253))
+unfolding before outside rules.letterDigitHyphen rules.letter rules.digit
+star-first t = sym (run-stops (star ∷ t) 0 refl (omega arith) (λ e. omega arith))
 
 -- and a star is no label
 star-label : label (star ∷ []) ≡ false
@@ -53,13 +53,11 @@ wild-labels reference t =
 -- the labels of a domain against those of a reference
 plain-labels : (reference text : List ℕ) → domain text ≡ true
     → labelsMatch (labels text) (labels reference) ≡ sameText text reference
-unfolding labelsMatch leftmostMatches domain sameDomain sameLabels
+unfolding labelsMatch leftmostMatches sameDomain sameLabels
 plain-labels reference text e =
-    let good = rw (labels-are text) at (and-eq-true-iff (leb (length text) 253) (all label (labels text)) .0 e .1) in
-    let first = and-eq-true-iff (label (before (is dot) text)) (all label (others text)) .0 good .0 in
     let no-star : same (before (is dot) text) (star ∷ []) ≡ false =
     by-cases (same (before (is dot) text) (star ∷ []))
-    (λ f. absurd (true≢false (sym first ∙ ap label (same-equal _ _ f) ∙ star-label))) (λ f. f) in
+    (λ f. absurd (true≢false (sym (domain-first text e) ∙ ap label (same-equal _ _ f) ∙ star-label))) (λ f. f) in
     rw (labels-are text, labels-are reference, no-star)
     (rw (labels-are text, labels-are reference) at (same-domain text reference))
 

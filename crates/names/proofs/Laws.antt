@@ -1,10 +1,10 @@
 -- The laws that the functions' proofs search: one for each return and each step of a loop.
 use Prim.Native.Nat.{ℕ, _+_, _-_, _<_, _≤_}
-use mathlib.Core.Path.{_≡_, refl, sym, _∙_}
+use mathlib.Core.Path.{_≡_, refl, sym, ap, _∙_}
 use mathlib.Core.List.{List, [], _∷_}
 use mathlib.Core.Bool.{Bool, true, false, not, and-false}
 use native.Mathlib.Omega.{arith}
-use lib.ListN.{length, getD, take, drop}
+use lib.ListN.{length, getD, take, drop, length-drop}
 use lib.Seq.{drop-drop}
 use lib.Dec.{eqb}
 use borrow.Author.Tests.{eq-eqb, ne-eqb, le-leb, lt-leb, not-true, not-false}
@@ -12,7 +12,7 @@ use Rattle.octets.proofs.Cut as cut
 use Rattle.octets.proofs.Every as every
 use Rattle.octets.proofs.Parts.{rest-is}
 use Rattle.rules.specs.Bytes.{some?, all, before}
-use Rattle.rules.specs.Names.{letter, letterDigitHyphen, ldh, label, labels, service, domain, schemeByte, scheme}
+use Rattle.rules.specs.Names.{letter, digit, letterDigitHyphen, ldh, service, domain, schemeByte, scheme}
 use Rattle.names.specs.Label.{outside, bounded}
 use Rattle.names.proofs.Runs
 
@@ -83,9 +83,9 @@ service-is s r e = e
 abbrev rest : List ℕ → ℕ → List ℕ
 rest s at = take (length s - at) (drop at s)
 
--- its labels are good just where s is a domain
+-- s is short enough, and that part is a domain just where s is
 unfoldable pub DomainLeft : List ℕ → ℕ → Type 0
-DomainLeft s at = all label (labels (rest s at)) ≡ domain s
+DomainLeft s at = (length s ≤ 253) × (domain (rest s at) ≡ domain s)
 
 module _ (s : List ℕ) where
   pub domain-long : 253 < length s → false ≡ domain s
@@ -93,35 +93,35 @@ module _ (s : List ℕ) where
   domain-long h = simp (lt-leb (length s) 253 h)
 
   pub domain-begin : length s ≤ 253 → DomainLeft s 0
-  unfolding DomainLeft domain
-  domain-begin h = rw rest-is (simp (le-leb (length s) 253 h))
+  unfolding DomainLeft
+  domain-begin h = (h, rw rest-is)
 
   module _ (at : ℕ) (inv : DomainLeft s at) (run : ℕ) (is-run : run ≡ length (before outside (rest s at))) where
     module _ (fits : Bool) (is-fits : fits ≡ bounded 63 (take run (rest s at))) where
       pub label-bad : not fits ≡ true → false ≡ domain s
       unfolding DomainLeft
-      label-bad e = sym (Runs.run-bad (rest s at) run is-run fits is-fits (not-true fits e)) ∙ inv
+      label-bad e = Runs.run-bad (rest s at) run is-run fits is-fits (not-true fits e) ∙ inv .1
 
-      pub label-last : not fits ≡ false → run ≡ length (rest s at) → true ≡ domain s
+      pub label-last : not fits ≡ false → run ≡ length (rest s at) → (digits : Bool) → digits ≡ all digit (rest s at) → not digits ≡ domain s
       unfolding DomainLeft
-      label-last e h =
-          sym (Runs.run-last (rest s at) run is-run fits is-fits (not-false fits e) h) ∙ inv
+      label-last e h digits is-digits =
+          ap not is-digits ∙ sym (Runs.run-last (rest s at) run is-run fits is-fits (not-false fits e) h) ∙ inv .1
 
       pub label-next : not fits ≡ false → run ≤ length (rest s at) → (run ≡ length (rest s at) → ⊥)
           → getD (rest s at) run 0 ≡ 0x2E → DomainLeft s (at + run + 1)
       unfolding DomainLeft
       label-next e h n d =
-          let next = Runs.run-next (rest s at) run is-run fits is-fits (not-false fits e) (omega arith) d in
+          let short : length (rest s at) ≤ 253 = rw (rest-is s at, length-drop) (omega (arith, inv .0)) in
+          let next = Runs.run-next (rest s at) run is-run fits is-fits (not-false fits e) (omega arith) d short in
           let past : drop (run + 1) (rest s at) ≡ rest s (at + run + 1) =
           let sum : at + (run + 1) ≡ at + run + 1 = omega arith in
           rw (rest-is s at, rest-is s (at + run + 1), drop-drop, sum) in
-          rw past at (sym next ∙ inv)
+          (inv .0, rw past at (sym next ∙ inv .1))
 
     pub label-stops : run ≤ length (rest s at) → (run ≡ length (rest s at) → ⊥) → (getD (rest s at) run 0 ≡ 0x2E → ⊥)
         → false ≡ domain s
     unfolding DomainLeft
-    label-stops h n d =
-        sym (Runs.run-stops (rest s at) run is-run (omega arith) d) ∙ inv
+    label-stops h n d = Runs.run-stops (rest s at) run is-run (omega arith) d ∙ inv .1
 
 -- ---- scheme
 

@@ -58,8 +58,9 @@ pub fn service(s: &[u8]) -> bool
     ldh(s, 62)
 }
 
-// "Domain: at most 253 bytes, one or more labels of 1 to 63 bytes joined by single dots." Each byte is looked at once:
-// a label is a run of letters, digits and hyphens, and after it stands a dot or nothing.
+// "Domain: at most 253 bytes, one or more labels of 1 to 63 bytes joined by single dots": a label is a run of letters, digits
+// and hyphens, and after it stands a dot or nothing. "the last label of a domain may not be all digits": of it alone, bytes
+// are looked at again, up to the first that is no digit.
 pub fn domain(s: &[u8]) -> bool
     ensures { λ r. ⌜ r ≡ rules.domain (now (s .entry)) ⌝ }
 {
@@ -75,7 +76,8 @@ pub fn domain(s: &[u8]) -> bool
             return false;
         }
         if run == rest.len() {
-            return true;
+            let all_digits = octets::digits(rest);
+            return !all_digits;
         }
         if rest[run] != 0x2E {
             return false;

@@ -1,15 +1,17 @@
 -- The laws that the functions' proofs search.
 use Prim.Native.Nat.{ℕ, _+_, _<_, _≤_}
-use mathlib.Core.Path.{_≡_}
+use mathlib.Core.Path.{_≡_, sym, _∙_}
 use mathlib.Core.List.{List}
+use mathlib.Core.Bool.{Bool, true, false, not}
 use lib.ListN.{length, getD}
 use lib.Dec.{ltb}
-use borrow.Author.Tests.{eq-eqb, ne-eqb}
-use Rattle.rules.specs.Bytes.{any, before}
-use Rattle.rules.specs.Names.{is}
+use borrow.Author.Tests.{eq-eqb, ne-eqb, not-true, not-false}
+use Rattle.rules.specs.Bytes.{all, any, before}
+use Rattle.rules.specs.Names.{is, digit}
 use Rattle.octets.proofs.Classes
 use Rattle.octets.proofs.Compare
 use Rattle.octets.proofs.Cut
+use Rattle.octets.proofs.Every
 use Rattle.octets.proofs.Parts
 
 -- ---- find, by the comparison that it makes
@@ -31,6 +33,26 @@ module _ (s : List ℕ) (b i : ℕ) (inv : Cut.Cutting (is b) s i) where
 
 pub has-is : (s : List ℕ) (b first : ℕ) → first ≡ length (before (is b) s) → ltb first (length s) ≡ any (is b) s
 has-is s b first e = rw (Cut.any-is (is b) s, ← e)
+
+-- ---- digits
+
+-- where it begins
+pub digits-begin : (s : List ℕ) → Every.EveryLeft digit (all digit s) s 0
+digits-begin s = Every.every-begin digit s
+
+module _ (s : List ℕ) (i : ℕ) (inv : Every.EveryLeft digit (all digit s) s i) where
+  module _ (good : Bool) (is-good : good ≡ digit (getD s i 0)) where
+    -- a digit
+    pub digits-next : i < length s → not good ≡ false → Every.EveryLeft digit (all digit s) s (i + 1)
+    digits-next h e = Every.every-next digit _ s i inv h (sym is-good ∙ not-false good e)
+
+    -- another byte
+    pub digits-fail : i < length s → not good ≡ true → false ≡ all digit s
+    digits-fail h e = Every.every-fails digit _ s i inv h (sym is-good ∙ not-true good e)
+
+  -- no byte left
+  pub digits-end : length s ≤ i → true ≡ all digit s
+  digits-end h = Every.every-end digit _ s i inv h
 
 pub ruleset laws = (
   Classes.lower-under,
@@ -62,5 +84,9 @@ pub ruleset laws = (
   find-next,
   find-end,
   has-is,
+  digits-begin,
+  digits-next,
+  digits-fail,
+  digits-end,
   Parts.rest-is,
 )

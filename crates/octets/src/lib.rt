@@ -2,7 +2,7 @@
 ghost use mathlib.Core.Path.{_≡_};
 ghost use Prim.Native.Nat.{_-_, _<_, _≤_};
 ghost use lib.ListN.{length, drop};
-ghost use Rattle.rules.specs.Bytes.{any, same, before};
+ghost use Rattle.rules.specs.Bytes.{all, any, same, before};
 ghost use Rattle.rules.specs.Names.{is, letter, digit, letterDigitHyphen, schemeByte, sameText};
 ghost use Rattle.rules.specs.Names as names;
 
@@ -136,6 +136,21 @@ pub fn has(s: &[u8], b: u8) -> bool
 {
     let first = find(s, b);
     first < s.len()
+}
+
+// Whether all bytes of s are digits.
+pub fn digits(s: &[u8]) -> bool
+    ensures { λ r. ⌜ r ≡ all digit (now (s .entry)) ⌝ }
+{
+    let mut i = 0;
+    while i < s.len() {
+        let good = is_digit(s[i]);
+        if !good {
+            return false;
+        }
+        i += 1;
+    }
+    true
 }
 
 // The bytes from a place on.

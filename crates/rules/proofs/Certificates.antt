@@ -111,27 +111,26 @@ srvNames = srvName (text "_m.b.c") ∷ []
 abbrev pub srvMatches : Certificate
 srvMatches = bySan srvSan srvNames srv (numbers 0 0 0 2 22)
 
+-- constraints that permit one service, of one byte
+abbrev pub permits : ℕ → List ℕ
+permits b = hex "30 16 A0 14 30 12 A0 10 06 08 2B 06 01 05 05 07 08 07 A0 04 16 02 5F" ++ b ∷ []
+
+abbrev pub permitted : ℕ → List (Der.Member San.GeneralName)
+permitted b = side 0 (text "_" ++ b ∷ []) ∷ []
+
 -- "With constraints `30 16 A0 14 30 12 A0 10 06 08 2B 06 01 05 05 07 08 07 A0 04 16 02 5F 6D`: the same."
 abbrev pub srvPermitted : Certificate
-srvPermitted =
-    constrained srvSan srvNames (hex "30 16 A0 14 30 12 A0 10 06 08 2B 06 01 05 05 07 08 07 A0 04 16 02 5F 6D")
-    (side 0 (text "_m") ∷ []) srv (numbers 0 0 0 2 22)
+srvPermitted = constrained srvSan srvNames (permits 0x6D) (permitted 0x6D) srv (numbers 0 0 0 2 22)
 
 -- "With the last byte 6E: answer 2."
-abbrev permitsOther : List ℕ
-permitsOther = hex "30 16 A0 14 30 12 A0 10 06 08 2B 06 01 05 05 07 08 07 A0 04 16 02 5F 6E"
-
-abbrev permitsOtherNames : List (Der.Member San.GeneralName)
-permitsOtherNames = side 0 (text "_n") ∷ []
-
 abbrev pub srvBroken : Certificate
-srvBroken = constrained srvSan srvNames permitsOther permitsOtherNames srv (numbers 2 0 0 0 0)
+srvBroken = constrained srvSan srvNames (permits 0x6E) (permitted 0x6E) srv (numbers 2 0 0 0 0)
 
 -- "Letting a matching DNS-ID excuse a broken SRVName": `a.b` matches, and the SRVName behind it breaks the constraints
 abbrev pub notExcused : Certificate
 notExcused =
     constrained (hex "30 1B 82 03 61 2E 62 A0 14 06 08 2B 06 01 05 05 07 08 07 A0 08 16 06 5F 6D 2E 62 2E 63")
-    (San.plain 0x82 (text "a.b") ∷ srvNames) permitsOther permitsOtherNames dns (numbers 2 0 1 0 0)
+    (San.plain 0x82 (text "a.b") ∷ srvNames) (permits 0x6E) (permitted 0x6E) dns (numbers 2 0 1 0 0)
 
 -- "lie in no excluded SRVName subtree": `_m` is excluded
 abbrev pub srvExcluded : Certificate
@@ -264,6 +263,53 @@ abbrev pub oneLabelKept : Certificate
 oneLabelKept =
     constrained oneLabelSan oneLabelNames (hex "30 15 A0 13 30 11 A0 0F 06 08 2B 06 01 05 05 07 08 07 A0 03 16 01 62")
     (side 0 (text "b") ∷ []) dns (numbers 1 0 0 0 0)
+
+-- ---- 2/13: addresses
+
+-- "A certificate with dNSName `10.4.0.7` matched a kiosk whose server was set by address."
+abbrev pub addressName : List ℕ → Verdict → Certificate
+addressName references numbers =
+    bySan (hex "30 0A 82 08 31 30 2E 34 2E 30 2E 37") (San.plain 0x82 (text "10.4.0.7") ∷ []) references numbers
+
+-- "the last label of a domain": digits in another one, and a last one that begins with a digit, match as before
+abbrev pub digitsFirst : Certificate
+digitsFirst =
+    bySan (hex "30 0B 82 09 34 2E 65 78 61 6D 70 6C 65") (San.plain 0x82 (text "4.example") ∷ [])
+    (recordBytes 1 [] 63 (text "4.example") 244) (numbers 0 0 0 2 11)
+
+abbrev pub digitThenLetter : Certificate
+digitThenLetter =
+    bySan (hex "30 06 82 04 61 2E 37 62") (San.plain 0x82 (text "a.7b") ∷ []) (recordBytes 1 [] 63 (text "a.7b") 249) (numbers 0 0 0 2 6)
+
+-- "SRVNames (no SRV-ID, so 2 where SRVName subtrees exist)": `_m.10.4.0.7`, without constraints and where `_m` is permitted
+abbrev pub addressSrv : List ℕ → List (Der.Member San.GeneralName) → Verdict → Certificate
+addressSrv constraints subtrees numbers =
+    constrained (hex "30 1B A0 19 06 08 2B 06 01 05 05 07 08 07 A0 0D 16 0B 5F 6D 2E 31 30 2E 34 2E 30 2E 37")
+    (srvName (text "_m.10.4.0.7") ∷ []) constraints subtrees dns numbers
+
+-- a service is no label of the domain: `_7.a.b` lies in the permitted `_7`
+abbrev pub digitsService : Certificate
+digitsService =
+    constrained (hex "30 16 A0 14 06 08 2B 06 01 05 05 07 08 07 A0 08 16 06 5F 37 2E 61 2E 62") (srvName (text "_7.a.b") ∷ [])
+    (permits 0x37) (permitted 0x37) (recordBytes 2 (text "7") 62 (text "a.b") 250) (numbers 0 0 0 2 22)
+
+-- a host: `x://10.4.0.7` is no URI-ID and blocks the CN; in `x://a.b:7` the port is no label
+abbrev pub addressHost : List ℕ → Certificate
+addressHost references =
+    bySan (hex "30 0E 86 0C 78 3A 2F 2F 31 30 2E 34 2E 30 2E 37") (San.plain 0x86 (text "x://10.4.0.7") ∷ []) references (numbers 1 0 0 0 0)
+
+abbrev pub digitsPort : Certificate
+digitsPort =
+    bySan (hex "30 0B 86 09 78 3A 2F 2F 61 2E 62 3A 37") (San.plain 0x86 (text "x://a.b:7") ∷ [])
+    (recordBytes 3 (text "x") 62 (text "a.b") 250) (numbers 0 0 0 2 11)
+
+-- "Other forms in the constraints are read and passed over": the dNSName `10.4.0.7` is permitted, and `a.b` matches
+abbrev pub addressPassedOver : Certificate
+addressPassedOver =
+    constrained s sNames (hex "30 0E A0 0C 30 0A 82 08 31 30 2E 34 2E 30 2E 37") (subtree 0 (San.plain 0x82 (text "10.4.0.7")) ∷ []) dns
+    (numbers 0 0 0 2 5)
+
+-- ---- label lengths
 
 -- "Labels of 63 and 64 bytes", each with a second label
 abbrev pub longLabel : ℕ → ℕ → Verdict → Certificate

@@ -57,14 +57,26 @@ domains =
     ∷ tested (Names.domain (letters 64)) false
     ∷ tested (Names.domain (labelled 63 63 63 61)) true
     ∷ tested (Names.domain (labelled 63 63 63 62)) false
-    -- "no hyphen at either end", "No trailing dot", labels of one byte at least, "Labels may be all digits"
-    ∷ tested (Names.domain (text "a-b.1")) true
+    -- "no hyphen at either end", "No trailing dot", labels of one byte at least
+    ∷ tested (Names.domain (text "a-b.1c")) true
     ∷ tested (Names.domain (text "-a")) false
     ∷ tested (Names.domain (text "a-")) false
     ∷ tested (Names.domain (text "a.")) false
     ∷ tested (Names.domain (text "a..b")) false
     ∷ tested (Names.domain []) false
     ∷ tested (Names.domain (text "a_b")) false
+    -- 2/13: "the last label of a domain may not be all digits", and no other label is judged by it
+    ∷ tested (Names.domain (text "10.4.0.7")) false
+    ∷ tested (Names.domain (text "4.example")) true
+    ∷ tested (Names.domain (text "a.7b")) true
+    ∷ tested (Names.domain (text "7")) false
+    ∷ tested (Names.domain (text "a.7")) false
+    ∷ tested (Names.domain (text "a.0123456789")) false
+    ∷ tested (Names.domain (text "a.7.b")) true
+    ∷ tested (Names.domain (text "a.0x7")) true
+    ∷ tested (Names.domain (text "a.7-7")) true
+    ∷ tested (Names.dnsId (text "*.a.7")) false
+    ∷ tested (Names.dnsId (text "*.4.example")) true
     -- "`*.` and a domain (at most 253 bytes in all)"
     ∷ tested (Names.dnsId (text "*." ++ labelled 63 63 63 59)) true
     ∷ tested (Names.dnsId (text "*." ++ labelled 63 63 63 60)) false
@@ -95,6 +107,12 @@ services =
     ∷ tested (Names.restriction (text "_a.b")) true
     ∷ tested (Names.restriction (text "b")) true
     ∷ tested (Names.restriction (text ".b")) false
+    -- 2/13: an address is no domain here either; `_7` has a service alone
+    ∷ tested (Names.srvId (text "_m.10.4.0.7")) false
+    ∷ tested (Names.srvId (text "_7.a.b")) true
+    ∷ tested (Names.restriction (text "10.4.0.7")) false
+    ∷ tested (Names.restriction (text "_m.7")) false
+    ∷ tested (Names.restriction (text "_7")) true
     -- "Service or scheme and domain must both match, without case."
     ∷ tested (Names.srvMatches (text "m") (text "B.c") (text "_M.b.C")) true
     ∷ tested (Names.srvMatches (text "n") (text "b") (text "_m.b")) false
@@ -126,6 +144,9 @@ uris =
     ∷ tested (Names.uriId (text "a://*.b")) false
     ∷ tested (Names.uriId (text "://b")) false
     ∷ tested (Names.uriId (text "a://u@")) false
+    -- 2/13: the host is a domain, the port no label of it
+    ∷ tested (Names.uriId (text "x://10.4.0.7")) false
+    ∷ tested (Names.uriId (text "x://a.b:7")) true
     -- "Service or scheme and domain must both match, without case."
     ∷ tested (Names.uriMatches (text "a-z") (text "b.C") (text "A-Z://u@B.c:1?d")) true
     ∷ tested (Names.uriMatches (text "c") (text "b") (text "a://b")) false
@@ -166,6 +187,12 @@ records =
     ∷ shows (recordBytes 1 [] 63 (text "example") 246) 0 6 0 0 0
     ∷ shows (Certificates.dns ++ recordBytes 1 [] 63 (text "b") 252) 0 6 0 0 0
     ∷ shows (recordBytes 1 [] 63 (text "b") 252 ++ Certificates.dns) 1 6 0 0 0
+    -- 2/13: "records (6)"
+    ∷ shows (recordBytes 1 [] 63 (text "10.4.0.7") 245) 0 6 0 0 0
+    ∷ shows (recordBytes 2 (text "m") 62 (text "a.7") 250) 0 6 0 0 0
+    ∷ shows (recordBytes 3 (text "m") 62 (text "a.7") 250) 0 6 0 0 0
+    ∷ shows (recordBytes 4 [] 63 (text "a.7") 250) 0 6 0 0 0
+    ∷ shows (recordBytes 2 (text "7") 62 (text "a.7b") 249) 0 0 2 1 4
     -- "that record's kind and two lengths, zeros on a refusal or past the last"
     ∷ shows (recordBytes 2 (text "m") 62 (text "a.b") 250) 0 0 2 1 3
     ∷ shows (recordBytes 2 (text "m") 62 (text "a.b") 250) 1 0 0 0 0
@@ -221,6 +248,9 @@ groups =
     ∷ tested (Constraints.constraintsGrammar .good (side 2 (text "a") ∷ [])) false
     -- "An SRVName here has one of three texts"
     ∷ tested (Constraints.constraintsGrammar .good (side 0 (text ".a") ∷ [])) false
+    -- 2/13: "restriction texts (5)"
+    ∷ tested (Constraints.constraintsGrammar .good (side 0 (text "10.4.0.7") ∷ [])) false
+    ∷ tested (Constraints.constraintsGrammar .good (side 1 (text "_m.7") ∷ [])) false
     ∷ []
 
 -- "An empty string means that the certificate has none"; "It is never absent"; "Empty means none."
@@ -266,6 +296,18 @@ verdicts =
     ∷ verdict Certificates.cnOver2
     ∷ verdict Certificates.oneLabelRecord
     ∷ verdict Certificates.oneLabelKept
+    ∷ verdict (Certificates.addressName (recordBytes 1 [] 63 (text "10.4.0.7") 245) (numbers 6 0 0 0 0))
+    ∷ verdict (Certificates.addressName Certificates.dns (numbers 1 0 0 0 0))
+    ∷ verdict (Certificates.addressName Certificates.cn (numbers 1 0 0 0 0))
+    ∷ verdict Certificates.digitsFirst
+    ∷ verdict Certificates.digitThenLetter
+    ∷ verdict (Certificates.addressSrv [] [] (numbers 1 0 0 0 0))
+    ∷ verdict (Certificates.addressSrv (Certificates.permits 0x6D) (Certificates.permitted 0x6D) (numbers 2 0 0 0 0))
+    ∷ verdict Certificates.digitsService
+    ∷ verdict (Certificates.addressHost (recordBytes 3 (text "x") 62 (text "a.b") 250))
+    ∷ verdict (Certificates.addressHost Certificates.cn)
+    ∷ verdict Certificates.digitsPort
+    ∷ verdict Certificates.addressPassedOver
     ∷ verdict (Certificates.longLabel 63 188 (numbers 0 0 0 2 67))
     ∷ verdict (Certificates.longLabel 64 187 (numbers 6 0 0 0 0))
     ∷ []
@@ -310,7 +352,7 @@ table =
     domains ++ (services ++ (uris ++ (records ++ (generalNames ++ (groups ++ (absences ++ (verdicts ++ (refusals ++ (witnesses ++ listings)))))))))
 
 pub desk : All table
-unfolding part same begins before after ascii upTo Names.letter Names.digit Names.letterDigitHyphen Names.lower Names.sameText Names.ldh Names.label Names.longer Names.labels Names.domain Names.twoLabels Names.sameLabels Names.sameDomain Names.wildcard Names.dnsId Names.leftmostMatches Names.labelsMatch Names.dnsMatches Names.service Names.serviceOf Names.domainOf Names.srvId Names.srvMatches Names.restriction Names.givenService Names.givenDomain Names.lastLabels Names.domainWithin Names.inSubtree Names.schemeByte Names.scheme Names.schemeOf Names.authorityEnd Names.authorityOf Names.hostAndPort Names.hostOf Names.portOf Names.uriId Names.uriMatches Records.referenceOf Records.filled Records.goodService Records.goodReference Records.goodRecord Records.split Records.recordsOf Records.goodRecords Records.referencesOf Der.lengthBytes Der.element Der.header Der.run Der.push Der.groups Der.rowsOfMembers Der.rowsOfGroups San.tagOf San.contentOf San.writeName San.sealed San.goodValue San.goodSrvName San.goodName San.nameKind San.rowsOfNames Subject.writeAttribute Subject.goodAttribute Subject.writeSet Subject.goodSet Subject.numbered Subject.isCn Subject.attributeKind Subject.attributeRow Seen.seenRecords Matching.taggedText Matching.srvText Matching.entryText Matching.soleCn Matching.cnText Matching.blocksCn Matching.presentedIn Matching.presentedTo Matching.textMatches Matching.matches Matching.firstPair Matching.srvSubtrees Matching.liesIn Matching.allowed Matching.breaks Matching.firstBroken Verdict.witnessOf Verdict.judged Verdict.outcomeOf Verdict.numbersOf Verdict.verdictOf Constraints.goodRestriction Constraints.goodSubtree Constraints.writeSubtree Constraints.writeSide Constraints.goodSide Constraints.subtreeRow Listing.listedOf Listing.tableAfter Records.shownAt Records.shown Verdict.witnessText Verdict.witnessPlace Verdict.witnessPart
+unfolding part same begins before after ascii upTo Names.letter Names.digit Names.letterDigitHyphen Names.lower Names.sameText Names.ldh Names.label Names.longer Names.labels Names.lastOf Names.domain Names.twoLabels Names.sameLabels Names.sameDomain Names.wildcard Names.dnsId Names.leftmostMatches Names.labelsMatch Names.dnsMatches Names.service Names.serviceOf Names.domainOf Names.srvId Names.srvMatches Names.restriction Names.givenService Names.givenDomain Names.lastLabels Names.domainWithin Names.inSubtree Names.schemeByte Names.scheme Names.schemeOf Names.authorityEnd Names.authorityOf Names.hostAndPort Names.hostOf Names.portOf Names.uriId Names.uriMatches Records.referenceOf Records.filled Records.goodService Records.goodReference Records.goodRecord Records.split Records.recordsOf Records.goodRecords Records.referencesOf Der.lengthBytes Der.element Der.header Der.run Der.push Der.groups Der.rowsOfMembers Der.rowsOfGroups San.tagOf San.contentOf San.writeName San.sealed San.goodValue San.goodSrvName San.goodName San.nameKind San.rowsOfNames Subject.writeAttribute Subject.goodAttribute Subject.writeSet Subject.goodSet Subject.numbered Subject.isCn Subject.attributeKind Subject.attributeRow Seen.seenRecords Matching.taggedText Matching.srvText Matching.entryText Matching.soleCn Matching.cnText Matching.blocksCn Matching.presentedIn Matching.presentedTo Matching.textMatches Matching.matches Matching.firstPair Matching.srvSubtrees Matching.liesIn Matching.allowed Matching.breaks Matching.firstBroken Verdict.witnessOf Verdict.judged Verdict.outcomeOf Verdict.numbersOf Verdict.verdictOf Constraints.goodRestriction Constraints.goodSubtree Constraints.writeSubtree Constraints.writeSide Constraints.goodSide Constraints.subtreeRow Listing.listedOf Listing.tableAfter Records.shownAt Records.shown Verdict.witnessText Verdict.witnessPlace Verdict.witnessPart
 desk = all-hold table tt
 
 -- ---- "Longest inputs, in bytes: SAN 16,384; subject 4,096; constraints 16,384; references 5,120. One byte more is answer 7."

@@ -7,7 +7,7 @@ use mathlib.Core.Logic.{_↔_, _⊎_, _≢_}
 use mathlib.Core.List.{List, [], _∷_, _++_}
 use lib.ListN.{length}
 use lib.Dec.{T}
-use Rattle.rules.specs.Bytes.{some?, all, any}
+use Rattle.rules.specs.Bytes.{all, any}
 use Rattle.rules.specs.Names.{is, at-sign, authorityEnd, letter, digit, letterDigitHyphen, label, domain, wildcard, dnsId, service, srvId, restriction, schemeByte, scheme, uriId}
 use Rattle.rules.proofs.Text.{text}
 
@@ -27,8 +27,11 @@ dotted (l ∷ []) = l
 dotted (l ∷ m ∷ ls) = l ++ (text "." ++ dotted (m ∷ ls))
 
 -- "Domain: at most 253 bytes, one or more labels of 1 to 63 bytes joined by single dots."
+-- 2/13: "the last label of a domain may not be all digits"
 abbrev pub Domain : List ℕ → Type 0
-Domain t = (ls : List (List ℕ)) × T (some? ls) × T (all label ls) × (length t ≤ 253) × (t ≡ dotted ls)
+Domain t =
+    (ls : List (List ℕ)) × (last : List ℕ) × T (all label (ls ++ last ∷ [])) × T (not (all digit last)) × (length t ≤ 253)
+    × (t ≡ dotted (ls ++ last ∷ []))
 
 -- "`*.` and a domain (at most 253 bytes in all)", with "at least two labels": a label, ".", a domain
 abbrev pub Wildcard : List ℕ → Type 0

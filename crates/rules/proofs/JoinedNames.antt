@@ -10,11 +10,12 @@ use lib.Seq.{take-length, take-suc, getD-append-seam}
 use lib.Dec.{T, eqb, leb}
 use borrow.Author.Tests.{eqb-true, eq-eqb, ne-eqb, leb-true, le-leb, not-true}
 use Rattle.rules.specs.Bytes.{some?, all, any, begins, before, after}
-use Rattle.rules.specs.Names.{is, dot, hyphen, underscore, letter, letterDigitHyphen, ldh, label, longer, labels, domain, twoLabels, wildcard, dnsId, service, serviceOf, domainOf, srvId, restriction, schemeByte, scheme}
+use Rattle.rules.specs.Names.{is, dot, hyphen, underscore, letter, digit, letterDigitHyphen, ldh, label, longer, labels, lastOf, domain, twoLabels, wildcard, dnsId, service, serviceOf, domainOf, srvId, restriction, schemeByte, scheme}
 use Rattle.rules.proofs.Text.{text}
 use Rattle.rules.proofs.Cases.{by-cases, and-left, and-right, clash, is-true, holds}
 use Rattle.rules.proofs.Cut
 use Rattle.rules.proofs.Free.{label-no-dot, service-no-dot, domain-empty}
+use Rattle.rules.proofs.Labels.{labels-some, two-labels, labels-one, labels-seam, domain-short, domain-first, domain-past}
 use Rattle.rules.proofs.Joined.{Hyphenated, Scheme, dotted, Domain, Wildcard, SrvId, Restriction}
 
 -- ---- labels, services and schemes
@@ -95,21 +96,6 @@ dotted-longer b [] = refl
 dotted-longer b (l ∷ []) = refl
 dotted-longer b (l ∷ m ∷ ls) = refl
 
--- a text has a label
-longer-some : (b : ℕ) (ls : List (List ℕ)) → T (some? (longer b ls))
-unfolding longer
-longer-some b [] = tt
-longer-some b (l ∷ ls) = tt
-
-labels-some : (t : List ℕ) → T (some? (labels t))
-unfolding labels
-labels-some [] = tt
-labels-some (b ∷ s) = by-cases (eqb b dot) (λ e. rw e tt) (λ e. rw e (longer-some b (labels s)))
-
-some-long : (ls : List (List ℕ)) → T (some? ls) → 1 ≤ length ls
-some-long [] h = absurd h
-some-long (l ∷ ls) h = omega arith
-
 -- a text is its labels joined by dots
 dotted-labels : (t : List ℕ) → dotted (labels t) ≡ t
 unfolding labels
@@ -125,18 +111,6 @@ cut-at-dot t h =
     let c = Cut.cut-there (is dot) t h in
     c .2 ∙ ap (λ x. before (is dot) t ++ x ∷ after (is dot) t) (eqb-true (c .0) dot (c .1))
 
--- one label, and a label in front of others
-labels-one : (l : List ℕ) → any (is dot) l ≡ false → labels l ≡ l ∷ []
-unfolding labels longer
-labels-one [] e = refl
-labels-one (b ∷ s) e = by-cases (eqb b dot) (λ h. clash (rw h) e) (λ h. rw (h, labels-one s (rw h at e)))
-
-labels-seam : (r l : List ℕ) → any (is dot) l ≡ false → labels (l ++ dot ∷ r) ≡ l ∷ labels r
-unfolding labels longer
-labels-seam r [] e = refl
-labels-seam r (b ∷ s) e =
-    by-cases (eqb b dot) (λ h. clash (rw h) e) (λ h. rw (h, labels-seam r s (rw h at e)))
-
 -- good labels joined by dots are the labels of the text
 labels-dotted : (ls : List (List ℕ)) → T (some? ls) → all label ls ≡ true → labels (dotted ls) ≡ ls
 labels-dotted [] h e = absurd h
@@ -145,22 +119,47 @@ labels-dotted (l ∷ m ∷ ls) h e =
     labels-seam (dotted (m ∷ ls)) l (label-no-dot l (and-left (label l) (all label (m ∷ ls)) e))
     ∙ ap (λ r. l ∷ r) (labels-dotted (m ∷ ls) tt (and-right (label l) (all label (m ∷ ls)) e))
 
+-- the last of some labels, and what stands before it
+rest-and-last : (ls : List (List ℕ)) → T (some? ls) → (ks : List (List ℕ)) × (ls ≡ ks ++ lastOf ls ∷ [])
+unfolding lastOf
+rest-and-last [] h = absurd h
+rest-and-last (l ∷ []) h = ([], refl)
+rest-and-last (l ∷ m ∷ ls) h =
+    let (ks, e) = rest-and-last (m ∷ ls) tt in
+    (l ∷ ks, ap (λ r. l ∷ r) e)
+
+last-put : (ls : List (List ℕ)) (l : List ℕ) → lastOf (ls ++ l ∷ []) ≡ l
+unfolding lastOf
+last-put [] l = refl
+last-put (k ∷ []) l = refl
+last-put (k ∷ m ∷ ls) l = last-put (m ∷ ls) l
+
+some-put : (ls : List (List ℕ)) (l : List ℕ) → T (some? (ls ++ l ∷ []))
+some-put [] l = tt
+some-put (k ∷ ls) l = tt
+
 pub domain-taken : (t : List ℕ) → domain t ≡ true → Domain t
 unfolding domain
-domain-taken t e = (
-  labels t,
-  labels-some t,
-  holds (all label (labels t)) (and-right (leb (length t) 253) (all label (labels t)) e),
-  leb-true (length t) 253 (and-left (leb (length t) 253) (all label (labels t)) e),
-  sym (dotted-labels t),
-)
+domain-taken t e =
+    let short : leb (length t) 253 ≡ true = search (and-left, and-right) in
+    let good : all label (labels t) ≡ true = search (and-left, and-right) in
+    let last : not (all digit (lastOf (labels t))) ≡ true = search (and-left, and-right) in
+    let (ks, whole) = rest-and-last (labels t) (labels-some t) in (
+      ks,
+      lastOf (labels t),
+      holds (all label (ks ++ lastOf (labels t) ∷ [])) (ap (all label) (sym whole) ∙ good),
+      holds (not (all digit (lastOf (labels t)))) last,
+      leb-true (length t) 253 short,
+      sym (dotted-labels t) ∙ ap dotted whole,
+    )
 
 pub domain-put : (t : List ℕ) → Domain t → domain t ≡ true
 unfolding domain
-domain-put t d =
-    let e : all label (d .0) ≡ true = is-true (all label (d .0)) (d .2) in
-    let l : labels t ≡ d .0 = ap labels (d .4) ∙ labels-dotted (d .0) (d .1) e in
-    simp (l, e, le-leb (length t) 253 (d .3))
+domain-put t (ks, last, good, other, short, whole) =
+    let ls : List (List ℕ) = ks ++ last ∷ [] in
+    let e : all label ls ≡ true = is-true (all label ls) good in
+    let l : labels t ≡ ls = ap labels whole ∙ labels-dotted ls (some-put ks last) e in
+    simp (l, e, last-put ks last, is-true (not (all digit last)) other, le-leb (length t) 253 short)
 
 -- ---- texts that begin with given bytes
 
@@ -182,24 +181,13 @@ begins-append (x ∷ p) r = rw (eq-eqb x x refl) (begins-append p r)
 -- the first of two labels ends at a dot, and past it stands a domain
 first-label : (t : List ℕ) → domain t ≡ true → twoLabels t ≡ true
     → T (label (before (is dot) t)) × T (domain (after (is dot) t)) × (t ≡ before (is dot) t ++ (text "." ++ after (is dot) t))
-unfolding domain twoLabels
 first-label t e two =
-    by-cases (any (is dot) t)
-    (λ h.
-    let whole = cut-at-dot t h in
-    let parts : labels t ≡ before (is dot) t ∷ labels (after (is dot) t) =
-    ap labels whole ∙ labels-seam (after (is dot) t) (before (is dot) t) (Cut.any-before (is dot) (is dot) (λ x k. k) t) in
-    let good : label (before (is dot) t) && all label (labels (after (is dot) t)) ≡ true =
-    ap (all label) (sym parts) ∙ and-right (leb (length t) 253) (all label (labels t)) e in
-    let short = leb-true (length t) 253 (and-left (leb (length t) 253) (all label (labels t)) e) in
-    let n : length t ≡ length (before (is dot) t) + suc (length (after (is dot) t)) =
-    ap length whole ∙ length-append (before (is dot) t) (dot ∷ after (is dot) t) in (
-      holds (label (before (is dot) t)) (and-left (label (before (is dot) t)) (all label (labels (after (is dot) t))) good),
-      holds (domain (after (is dot) t))
-          (simp (le-leb (length (after (is dot) t)) 253 (omega arith), and-right (label (before (is dot) t)) (all label (labels (after (is dot) t))) good)),
-      whole,
-    ))
-    (λ h. clash two (rw (labels-one t h)))
+    let h : any (is dot) t ≡ true = sym (two-labels t) ∙ two in
+    let first = domain-first t e in (
+      holds (label (before (is dot) t)) first,
+      holds (domain (after (is dot) t)) (sym (domain-past t h first (domain-short t e)) ∙ e),
+      cut-at-dot t h,
+    )
 
 pub wildcard-taken : (t : List ℕ) → wildcard t ≡ true → Wildcard t
 unfolding wildcard
@@ -218,21 +206,22 @@ wildcard-taken t e =
     )
 
 pub wildcard-put : (t : List ℕ) → Wildcard t → wildcard t ≡ true
-unfolding wildcard domain twoLabels
+unfolding wildcard
 wildcard-put t (l, d, first, rest, short, whole) =
     let r : List ℕ = l ++ dot ∷ d in
-    let parts : labels r ≡ l ∷ labels d = labels-seam d l (label-no-dot l (is-true (label l) first)) in
     let n : length t ≡ suc (suc (length r)) = ap length whole in
-    let good : all label (labels d) ≡ true = and-right (leb (length d) 253) (all label (labels d)) (is-true (domain d) rest) in
+    let none : any (is dot) l ≡ false = label-no-dot l (is-true (label l) first) in
+    let some : any (is dot) r ≡ true = Cut.any-seam (is dot) dot d refl l in
+    let good : domain r ≡ true =
+    domain-past r some (ap label (Cut.before-seam (is dot) dot d refl l none) ∙ is-true (label l) first) (omega arith)
+    ∙ ap domain (Cut.after-seam (is dot) dot d refl l none)
+    ∙ is-true (domain d) rest in
     simp (
       le-leb (length t) 253 short,
       ap (begins (text "*.")) whole ∙ begins-append (text "*.") r,
       ap (drop 2) whole,
-      le-leb (length r) 253 (omega arith),
-      parts,
-      is-true (label l) first,
       good,
-      le-leb 2 (suc (length (labels d))) (omega (arith, some-long (labels d) (labels-some d))),
+      two-labels r ∙ some,
     )
 
 pub dns-taken : (t : List ℕ) → dnsId t ≡ true → T (domain t) ⊎ Wildcard t

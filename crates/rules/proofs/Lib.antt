@@ -9,6 +9,7 @@ pub mod Desk
 pub mod Cases
 pub mod Cut
 pub mod Free
+pub mod Labels
 pub mod Joined
 pub mod JoinedNames
 pub mod JoinedUri

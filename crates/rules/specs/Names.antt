@@ -1,6 +1,6 @@
 -- Names: what is a domain, a service, a scheme; DNS-ID, SRV-ID and URI-ID, and what each matches; the texts of SRVName
 -- restrictions, and lying in a subtree. Document 01, "Names", sentence by sentence, as document 02 changes them.
-use Prim.Native.Nat.{ℕ, zero, suc, _+_, _-_}
+use Prim.Native.Nat.{ℕ, _+_, _-_}
 use mathlib.Core.Bool.{Bool, true, false, cond, not, _&&_, _||_}
 use mathlib.Core.List.{List, [], _∷_}
 use mathlib.Core.Option.{Option, none, some}
@@ -83,9 +83,17 @@ unfoldable pub labels : List ℕ → List (List ℕ)
 labels [] = [] ∷ []
 labels (b ∷ s) = cond (eqb b dot) ([] ∷ labels s) (longer b (labels s))
 
+-- the last of them
+unfoldable pub lastOf : List (List ℕ) → List ℕ
+lastOf [] = []
+lastOf (l ∷ []) = l
+lastOf (l ∷ m ∷ ls) = lastOf (m ∷ ls)
+
 -- "Domain: at most 253 bytes, one or more labels of 1 to 63 bytes joined by single dots. .. No trailing dot."
+-- 2/13: "the last label of a domain may not be all digits. This holds for presented names, records (6), restriction texts (5)
+-- and SRVNames": each of them asks for a domain, below and in Records.
 unfoldable pub domain : List ℕ → Bool
-domain s = leb (length s) 253 && all label (labels s)
+domain s = leb (length s) 253 && all label (labels s) && not (all digit (lastOf (labels s)))
 
 -- 1/13: "at least two labels". No part of a domain: "Restrictions and presented names without a wildcard may keep one label"
 unfoldable pub twoLabels : List ℕ → Bool

@@ -3,8 +3,8 @@ ghost use mathlib.Core.Path.{_≡_};
 ghost use mathlib.Core.List.{[], _∷_};
 ghost use Prim.Native.Nat.{_≤_};
 ghost use lib.ListN.{length};
-ghost use Rattle.rules.specs.Bytes.{all, before, begins};
-ghost use Rattle.rules.specs.Names.{slash, digit, uriId, uriMatches};
+ghost use Rattle.rules.specs.Bytes.{before, begins};
+ghost use Rattle.rules.specs.Names.{slash, uriId, uriMatches};
 ghost use Rattle.uri.specs.Parts as spec;
 
 // Whether a text begins with "//".
@@ -18,21 +18,6 @@ fn slashed(s: &[u8]) -> bool
         return false;
     }
     s[1] == 0x2F
-}
-
-// "digits or nothing"
-fn digits(s: &[u8]) -> bool
-    ensures { λ r. ⌜ r ≡ all digit (now (s .entry)) ⌝ }
-{
-    let mut i = 0;
-    while i < s.len() {
-        let good = octets::is_digit(s[i]);
-        if !good {
-            return false;
-        }
-        i += 1;
-    }
-    true
 }
 
 // Whether a byte is "/", "?", "#" or b.
@@ -96,7 +81,7 @@ fn hosted(h: &[u8]) -> bool
         return true;
     }
     let port = octets::from(h, n + 1);
-    digits(port)
+    octets::digits(port)
 }
 
 // "URI-ID: a scheme as in a record, "://", then an authority"
@@ -145,7 +130,7 @@ fn host_matches(domain: &[u8], h: &[u8]) -> bool
         return false;
     }
     let port = octets::from(h, n + 1);
-    digits(port)
+    octets::digits(port)
 }
 
 // "Service or scheme and domain must both match, without case."

@@ -7,7 +7,7 @@ use Rattle.uri.proofs.host_matches.Lts as lts
 use Rattle.names.proofs.domain.Reads as domain-reads
 use Rattle.octets.proofs.from.Reads as from-reads
 use Rattle.octets.proofs.same_text.Reads as same-text-reads
-use Rattle.uri.proofs.digits.Reads as digits-reads
+use Rattle.octets.proofs.digits.Reads as digits-reads
 
 -- src/lib.rt:130:9
 returns : tie.Need-returns

@@ -7,7 +7,7 @@ use Rattle.uri.proofs.hosted.Lts as lts
 use Rattle.names.proofs.domain.Reads as domain-reads
 use Rattle.octets.proofs.find.Reads as find-reads
 use Rattle.octets.proofs.from.Reads as from-reads
-use Rattle.uri.proofs.digits.Reads as digits-reads
+use Rattle.octets.proofs.digits.Reads as digits-reads
 
 -- src/lib.rt:90:9
 find-requires : tie.Need-find-requires

@@ -1,15 +1,15 @@
 use Prim.Native.Nat.{_≤_, _-_}
 use lib.ListN.{length}
 use borrow.Author.Needs.{needs}
 use Rattle.octets.proofs.Every.{EveryLeft}
 use Rattle.rules.specs.Bytes.{all}
 use Rattle.rules.specs.Names.{digit}
-use Rattle.uri.proofs.Laws.{laws}
-use Rattle.uri.proofs.digits.Statement.{statement}
-use Rattle.uri.proofs.digits.Tie as tie
-use Rattle.uri.proofs.digits.Reads as reads
-use Rattle.uri.proofs.digits.Lts as lts
+use Rattle.octets.proofs.Laws.{laws}
+use Rattle.octets.proofs.digits.Statement.{statement}
+use Rattle.octets.proofs.digits.Tie as tie
+use Rattle.octets.proofs.digits.Reads as reads
+use Rattle.octets.proofs.digits.Lts as lts
 use Rattle.octets.proofs.is_digit.Reads as is-digit-reads
 
 abbrev Inv-loop : tie.InvT-loop
 Inv-loop s i₀ i = (i ≤ length s) × EveryLeft digit (all digit s) s i
