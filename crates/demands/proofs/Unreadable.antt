@@ -8,9 +8,13 @@ use lib.ListN.{length}
 use lib.Dec.{T}
 use Rattle.rules.specs.Numbers.{recordsLimit}
 use Rattle.rules.specs.Records.{goodRecords}
+use Rattle.rules.specs.Bytes
+use Rattle.rules.specs.Names
 use Rattle.rules.specs.San
+use Rattle.rules.specs.Constraints
 use Rattle.rules.specs.Verdict.{numbers}
 use Rattle.rules.specs.Seen.{unreadable, listed, sanInput, subjectInput, constraintsInput, Sees}
+use Rattle.rules.proofs.Text.{hex}
 use Rattle.rules.proofs.Marked.{j, jNames}
 use Rattle.reading.specs.Reader
 use Rattle.reading.specs.Strings
@@ -28,6 +32,10 @@ longForm = 0x30 ∷ 0x81 ∷ 0x05 ∷ 0x82 ∷ 0x03 ∷ 0x61 ∷ 0x2E ∷ 0x62 �
 abbrev pub noElement : List ℕ
 noElement = 0x30 ∷ 0x00 ∷ []
 
+-- 2/13: "restriction texts (5)": constraints that permit `_m.7`
+abbrev pub addressRestriction : List ℕ
+addressRestriction = hex "30 18 A0 16 30 14 A0 12 06 08 2B 06 01 05 05 07 08 07 A0 06 16 04 5F 6D 2E 37"
+
 -- ---- what is seen of them
 
 pub san-long-form : Sees sanInput longForm unreadable
@@ -41,6 +49,10 @@ san-no-name = sees-san noElement
 pub constraints-no-side : Sees constraintsInput noElement unreadable
 unfolding seenConstraints Views.seenOf Strings.readConstraints Strings.readSides Reader.readElement Reader.readLength Reader.contentAfter Reader.readItems
 constraints-no-side = sees-constraints noElement
+
+pub constraints-address : Sees constraintsInput addressRestriction unreadable
+unfolding seenConstraints Views.seenOf Strings.readConstraints Strings.readSides Strings.readSide Strings.readSubtree Strings.readName Strings.nameOf Reader.readElement Reader.readLength Reader.contentAfter Reader.readItems San.goodName San.goodSrvName San.goodValue San.sealed Constraints.goodRestriction Bytes.same Bytes.begins Bytes.before Bytes.after Bytes.ascii Names.restriction Names.service Names.serviceOf Names.domainOf Names.srvId Names.domain Names.labels Names.longer Names.lastOf Names.label Names.ldh Names.letterDigitHyphen Names.letter Names.digit
+constraints-address = sees-constraints addressRestriction
 
 -- but a subject may have no set; "It is never absent: an empty string is unreadable"
 pub subject-no-set : Sees subjectInput noElement (listed [])
@@ -92,8 +104,16 @@ module _ (references : List ℕ) (fits : length references ≤ recordsLimit) (go
       let short = fits-not-long s (record { references = fits; san = omega arith; subject = omega arith; constraints = omega arith }) in
       only s 4 (demand1 .verdict s .order .1 .1 .1 .0 .1 (subject-empty .1, (absent-san, (readable, (short, tt))))) (omega arith)
 
+  -- constraints that are unreadable beside J are 5
+  unread-constraints : (constraints : List ℕ) → Sees constraintsInput constraints unreadable
+      → verdictOn (certificate [] j constraints) ≡ numbers 5 0 0 0 0
+  unread-constraints constraints u =
+      let s = certificate [] j constraints in
+      let short = fits-not-long s (record { references = fits; san = omega arith; subject = omega arith; constraints = u .0 }) in
+      only s 5 (demand1 .verdict s .order .1 .1 .1 .1 .0 .1 (u .1, ((λ v. v jNames (subject-j .1)), (absent-san, (readable, (short, tt)))))) (omega arith)
+
   pub no-side-answer : verdictOn (certificate [] j noElement) ≡ numbers 5 0 0 0 0
-  no-side-answer =
-      let s = certificate [] j noElement in
-      let short = fits-not-long s (record { references = fits; san = omega arith; subject = omega arith; constraints = omega arith }) in
-      only s 5 (demand1 .verdict s .order .1 .1 .1 .1 .0 .1 (constraints-no-side .1, ((λ u. u jNames (subject-j .1)), (absent-san, (readable, (short, tt)))))) (omega arith)
+  no-side-answer = unread-constraints noElement constraints-no-side
+
+  pub address-answer : verdictOn (certificate [] j addressRestriction) ≡ numbers 5 0 0 0 0
+  address-answer = unread-constraints addressRestriction constraints-address
