@@ -38,7 +38,8 @@
  *   san          an SRVName as UTF8String, or an empty one; a byte above 127 in an email address, a dNSName or a URI; no name
  *   subject      an RDN without attributes; a value whose tag has more than one byte
  *   constraints  a subtree with a minimum or a maximum; an SRVName as UTF8String; an SRVName restriction that is not _service,
- *                _service.domain or domain, such as one with a leading dot; neither a permitted nor an excluded subtree
+ *                _service.domain or domain, such as one with a leading dot, or one whose last label is all digits; neither a
+ *                permitted nor an excluded subtree
  *
  * RECORDS. A good record is 320 bytes:
  *
@@ -49,13 +50,17 @@
  *   bytes 4 to 66   SRV: the service, without its "_": 1 to 62 letters, digits and hyphens, no hyphen at either end.
  *                   URI: the scheme, without its ":": 1 to 63 bytes, a letter and then letters, digits, "+", "-" and "."
  *   bytes 67 to 319 the domain: at most 253 bytes, two or more labels joined by single dots; a label is 1 to 63 letters, digits and
- *                   hyphens, no hyphen at either end. So no trailing dot, no "_" and no "*"; international names as xn-- labels
+ *                   hyphens, no hyphen at either end. So no trailing dot, no "_" and no "*"; international names as xn-- labels.
+ *                   The last label is not all digits: a server is named, and not given by its address
  *
  * What the service and the domain leave free of their fields is 0. Letters are those of ASCII, of either case. One record that is
  * not good, no record at all, or a length that is no multiple of 320 makes all of them unreadable (6); more than 5,120 bytes are 7.
  *
  * WILDCARDS. A dNSName or a CN may begin with "*.", which stands for one whole label, and then has two labels or more behind it:
  * "*.branch.example" matches a reference "desk.branch.example", and "*.example" matches none.
+ *
+ * ADDRESSES. A domain whose last label is all digits, as in "10.4.0.7", is none: such a dNSName, SRVName, URI or CN matches nothing.
+ * Other labels are not judged so: "4.example" and "a.7b" are domains.
  */
 #ifndef BECKETHAND_H
 #define BECKETHAND_H

@@ -169,6 +169,7 @@ static void expect_list(const char *name, struct bytes b, size_t which, size_t l
 #define SRV_B "30 14 A0 12 06 08 2B 06 01 05 05 07 08 07 A0 06 16 04 5F 6D 2E 62"
 #define SRV "30 16 A0 14 06 08 2B 06 01 05 05 07 08 07 A0 08 16 06 5F 6D 2E 62 2E 63"
 #define PERMITS "30 16 A0 14 30 12 A0 10 06 08 2B 06 01 05 05 07 08 07 A0 04 16 02 5F 6D"
+#define PERMITS_7 "30 16 A0 14 30 12 A0 10 06 08 2B 06 01 05 05 07 08 07 A0 04 16 02 5F 37"
 #define PERMITS_N "30 16 A0 14 30 12 A0 10 06 08 2B 06 01 05 05 07 08 07 A0 04 16 02 5F 6E"
 
 static struct certificate with(const char *san, const char *subject, const char *constraints, struct bytes references) {
@@ -350,6 +351,57 @@ static void expect_record(const char *name, struct bytes b, size_t index, uint32
 
 static void expect_bad(const char *name, struct bytes b) { expect_record(name, b, 0, 6, 0, 0, 0); }
 
+/* 2/13: "the last label of a domain may not be all digits", in a dNSName, a CN and a record */
+static void addresses(void) {
+    const char *address = "30 0A 82 08 31 30 2E 34 2E 30 2E 37", *wild = "30 07 82 05 2A 2E 61 2E 37";
+    expect_zeros("10.4.0.7, DNS 10.4.0.7", with(address, J, "", record(BECKETHAND_DNS, "", "10.4.0.7")),
+                 BECKETHAND_REFERENCES_UNREADABLE);
+    expect_zeros("10.4.0.7, DNS a.b", with(address, J, "", record(BECKETHAND_DNS, "", "a.b")), BECKETHAND_MISMATCH);
+    expect_zeros("10.4.0.7, CN a.b", with(address, J, "", record(BECKETHAND_CN, "", "a.b")), BECKETHAND_MISMATCH);
+    expect("4.example",
+           with("30 0B 82 09 34 2E 65 78 61 6D 70 6C 65", J, "", record(BECKETHAND_DNS, "", "4.example")), 0, 0, 0, 2, 11);
+    expect("a.7b", with("30 06 82 04 61 2E 37 62", J, "", record(BECKETHAND_DNS, "", "a.7b")), 0, 0, 0, 2, 6);
+    expect("a.0x7", with("30 07 82 05 61 2E 30 78 37", J, "", record(BECKETHAND_DNS, "", "a.0x7")), 0, 0, 0, 2, 7);
+    expect("*.4.example",
+           with("30 0D 82 0B 2A 2E 34 2E 65 78 61 6D 70 6C 65", J, "", record(BECKETHAND_DNS, "", "a.4.example")), 0, 0, 0, 2, 13);
+    expect_zeros("*.a.7, DNS b.a.7", with(wild, J, "", record(BECKETHAND_DNS, "", "b.a.7")), BECKETHAND_REFERENCES_UNREADABLE);
+    expect_zeros("*.a.7, CN a.b", with(wild, J, "", record(BECKETHAND_CN, "", "a.b")), BECKETHAND_MISMATCH);
+    expect_zeros("7 and a.7 block a CN", with("30 08 82 01 37 82 03 61 2E 37", J, "", record(BECKETHAND_CN, "", "a.b")),
+                 BECKETHAND_MISMATCH);
+    expect_bad("SRV 10.4.0.7", record(BECKETHAND_SRV, "m", "10.4.0.7"));
+    expect_bad("URI 10.4.0.7", record(BECKETHAND_URI, "m", "10.4.0.7"));
+    expect_bad("CN 10.4.0.7", record(BECKETHAND_CN, "", "10.4.0.7"));
+    expect_record("SRV 7, 4.a", record(BECKETHAND_SRV, "7", "4.a"), 0, 0, 2, 1, 3);
+}
+
+/* 2/13, in SRVNames, restrictions and URIs */
+static void addresses_of_services(void) {
+    /* `_m.10.4.0.7`, without constraints and where `_m` is permitted */
+    const char *srv = "30 1B A0 19 06 08 2B 06 01 05 05 07 08 07 A0 0D 16 0B 5F 6D 2E 31 30 2E 34 2E 30 2E 37";
+    expect_zeros("_m.10.4.0.7", with(srv, J, "", record(BECKETHAND_DNS, "", "a.b")), BECKETHAND_MISMATCH);
+    expect_zeros("_m.10.4.0.7 under _m", with(srv, J, PERMITS, record(BECKETHAND_DNS, "", "a.b")), BECKETHAND_CONSTRAINTS_BROKEN);
+    /* `_7.a.b` under `_7` */
+    expect("_7.a.b under _7",
+           with("30 16 A0 14 06 08 2B 06 01 05 05 07 08 07 A0 08 16 06 5F 37 2E 61 2E 62", J, PERMITS_7,
+                record(BECKETHAND_SRV, "7", "a.b")),
+           0, 0, 0, 2, 22);
+    /* the restrictions `10.4.0.7` and `_m.7` */
+    const char *address = "30 1C A0 1A 30 18 A0 16 06 08 2B 06 01 05 05 07 08 07 A0 0A 16 08 31 30 2E 34 2E 30 2E 37";
+    const char *of_service = "30 18 A1 16 30 14 A0 12 06 08 2B 06 01 05 05 07 08 07 A0 06 16 04 5F 6D 2E 37";
+    unreadable_constraints("a restriction 10.4.0.7", address);
+    unreadable_constraints("a restriction _m.7", of_service);
+    expect_list("a restriction 10.4.0.7", from_hex(address), BECKETHAND_LIST_CONSTRAINTS, 2, 5, 0, NULL);
+    expect_list("a restriction _m.7", from_hex(of_service), BECKETHAND_LIST_CONSTRAINTS, 2, 5, 0, NULL);
+    /* the dNSName `10.4.0.7` is permitted */
+    const char *dns = "30 0E A0 0C 30 0A 82 08 31 30 2E 34 2E 30 2E 37";
+    expect("a dNSName restriction 10.4.0.7", with(S, J, dns, record(BECKETHAND_DNS, "", "a.b")), 0, 0, 0, 2, 5);
+    /* `x://10.4.0.7` and `x://a.b:7` */
+    const char *uri = "30 0E 86 0C 78 3A 2F 2F 31 30 2E 34 2E 30 2E 37";
+    expect_zeros("x://10.4.0.7, URI", with(uri, J, "", record(BECKETHAND_URI, "x", "a.b")), BECKETHAND_MISMATCH);
+    expect_zeros("x://10.4.0.7, CN", with(uri, J, "", record(BECKETHAND_CN, "", "a.b")), BECKETHAND_MISMATCH);
+    expect("x://a.b:7", with("30 0B 86 09 78 3A 2F 2F 61 2E 62 3A 37", J, "", record(BECKETHAND_URI, "x", "a.b")), 0, 0, 0, 2, 11);
+}
+
 static void records(void) {
     struct bytes b = zeros(2 * BECKETHAND_RECORD_SIZE);
     put_record(b.at, BECKETHAND_SRV, "mail", "a.b");
@@ -459,6 +511,8 @@ int main(void) {
     outside_the_grammar();
     records();
     good_and_bad_records();
+    addresses();
+    addresses_of_services();
     listings();
     kinds_of_rows();
     printf("C: %d cases, %d failures\n", cases, failures);
