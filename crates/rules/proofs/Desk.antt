@@ -4,7 +4,7 @@ use Prim.Native.Nat.{ℕ, _<_}
 use mathlib.Core.Bool.{Bool, true, false, cond}
 use mathlib.Core.Logic.{_↔_}
 use mathlib.Core.List.{List, [], _∷_, _++_}
-use lib.ListN.{length, drop}
+use lib.ListN.{length, drop, replicate}
 use lib.Dec.{T, ltb, lt→ltb, ltb→lt}
 use Rattle.rules.specs.Bytes.{part, same, begins, before, after, ascii, upTo}
 use Rattle.rules.specs.Names
@@ -72,6 +72,7 @@ domains =
     ∷ tested (Names.domain (text "7")) false
     ∷ tested (Names.domain (text "a.7")) false
     ∷ tested (Names.domain (text "a.0123456789")) false
+    ∷ tested (Names.domain (text "a." ++ replicate 63 0x37)) false
     ∷ tested (Names.domain (text "a.7.b")) true
     ∷ tested (Names.domain (text "a.0x7")) true
     ∷ tested (Names.domain (text "a.7-7")) true
