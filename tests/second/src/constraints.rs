@@ -88,7 +88,8 @@ impl SrvSides {
 /// The index of the first entry of a readable SAN that breaks readable
 /// constraints. "if the constraints hold any SRVName subtree, each presented
 /// SRVName must be an SRV-ID, lie in no excluded SRVName subtree, and, if any
-/// permitted SRVName subtree exists, lie in one."
+/// permitted SRVName subtree exists, lie in one." Request 2/13: "This holds for
+/// [...] SRVNames (no SRV-ID, so 2 where SRVName subtrees exist)."
 pub fn first_broken(san: &[u8], constraints: &[u8], sides: SrvSides) -> Option<usize> {
     if !(sides.permitted || sides.excluded) {
         return None;

@@ -1,7 +1,8 @@
 //! The desk examples and the old faults of document 01, and the examples of
-//! request 1/13, as one numbered table. P1 to P16 are the document's numbers;
-//! D1 on are the desk examples without a number, in order; F1 to F5 the old
-//! faults, in order; L1 on the examples of the request.
+//! requests 1/13 and 2/13, as one numbered table. P1 to P16 are the document's
+//! numbers; D1 on are the desk examples without a number, in order; F1 to F5 the
+//! old faults, in order; L1 on the examples of request 1/13, about labels; A1 on
+//! those of request 2/13, about addresses.
 
 use crate::generate::Case;
 use crate::records::kind::{CN, DNS, SRV, URI};
@@ -11,6 +12,7 @@ use crate::tree::{
 };
 
 /// One line of the table: inputs, and the five numbers of the verdict.
+#[derive(Clone)]
 pub struct Example {
     pub number: String,
     pub case: Case,
@@ -50,6 +52,11 @@ pub fn table() -> Vec<Example> {
     table.extend(short_wildcards());
     table.extend(one_label_records());
     table.extend(one_label_names());
+    table.extend(addresses());
+    table.extend(next_to_addresses());
+    table.extend(address_records());
+    table.extend(address_srv_names());
+    table.extend(address_restrictions());
     table
 }
 
@@ -365,4 +372,181 @@ fn one_label_names() -> Vec<Example> {
         example("L13", under(b"c"), bare(2)),
         dns("L14", "b", "a.b", false),
     ]
+}
+
+/// Request 2/13: "A certificate with dNSName `10.4.0.7` matched a kiosk whose
+/// server was set by address. [...] the last label of a domain may not be all
+/// digits." A name that is none matches nothing and still blocks the CN.
+fn addresses() -> Vec<Example> {
+    let names = [
+        ("A1", dns_name(b"10.4.0.7"), DNS, "", "10.4.0.7"),
+        ("A2", dns_name(b"a.7"), DNS, "", "a.7"),
+        ("A3", dns_name(b"7"), DNS, "", "7"),
+        ("A4", dns_name(b"*.a.7"), DNS, "", "x.a.7"),
+        ("A5", uri_name(b"x://10.4.0.7"), URI, "x", "10.4.0.7"),
+        ("A6", srv_name(b"_m.10.4.0.7"), SRV, "m", "10.4.0.7"),
+    ];
+    let mut table = Vec::new();
+    for (number, name, kind, service, domain) in names {
+        let asked = |domain: &str| record(kind, service.as_bytes(), domain.as_bytes());
+        let asked = [
+            ("the address", asked(domain), 6),
+            ("another name", asked("a.b"), 1),
+            ("CN", record(CN, b"", b"a.b"), 1),
+        ];
+        for (what, references, answer) in asked {
+            let case = case(san(vec![name.clone()]).write(), references);
+            table.push(example(&format!("{number}: {what}"), case, bare(answer)));
+        }
+    }
+    let srv = san(vec![srv_name(b"_m.10.4.0.7")]).write();
+    let references = record(DNS, b"", b"a.b");
+    table.push(example("A6: DNS", case(srv, references), bare(1)));
+    table.push(cn("A7", "10.4.0.7", "10.4.0.7", bare(6)));
+    table.push(cn("A8", "10.4.0.7", "a.b", bare(1)));
+    table.push(cn("A9", "*.a.7", "x.a.7", bare(6)));
+    table
+}
+
+/// "Add cases `10.4.0.7`, `4.example` and `a.7b`": of these the latter two are
+/// domains still, and so are others whose last label has one byte that is no
+/// digit. A port is no label.
+fn next_to_addresses() -> Vec<Example> {
+    let ending = |before: usize, last: &[u8]| [domain_of(before).as_slice(), b".", last].concat();
+    vec![
+        dns("A10", "4.example", "4.example", true),
+        dns("A11", "a.7b", "a.7b", true),
+        dns("A12", "*.4.example", "x.4.example", true),
+        dns("A13", "a.0x7", "A.0X7", true),
+        dns("A14", "7.7-7", "7.7-7", true),
+        dns("A15", "*.0.b7", "10.0.B7", true),
+        cn("A16", "4.example", "4.example", [0, 0, 0, 4, 18]),
+        cn("A17", "a.7b", "a.7b", [0, 0, 0, 4, 13]),
+        cn("A18", "*.4.7b", "a.4.7b", [0, 0, 0, 4, 15]),
+        uri("A19", "x://4.example", "4.example", [0, 0, 0, 2, 15]),
+        uri("A20", "x://a.7b", "a.7b", [0, 0, 0, 2, 10]),
+        uri("A21", "x://a.b:7", "a.b", [0, 0, 0, 2, 11]),
+        uri("A22", "x://7@4.7b:10/7", "4.7b", [0, 0, 0, 2, 17]),
+        uri("A23", "x://a.7:7", "a.7", bare(6)),
+        same_domain("A24", &ending(189, &[b'9'; 63]), bare(6)),
+        same_domain("A25", &ending(251, b"9"), bare(6)),
+        same_domain("A26", &ending(189, &mostly_nines()), [0, 0, 0, 4, 256]),
+        same_domain("A27", &ending(251, b"z"), [0, 0, 0, 4, 256]),
+    ]
+}
+
+/// A label of 63 bytes, the last of which alone is no digit.
+fn mostly_nines() -> [u8; 63] {
+    let mut label = [b'9'; 63];
+    label[62] = b'z';
+    label
+}
+
+/// A SAN of one URI and one URI reference of scheme x.
+fn uri(number: &str, text: &str, domain: &str, verdict: [u32; 5]) -> Example {
+    let san = san(vec![uri_name(text.as_bytes())]).write();
+    example(
+        number,
+        case(san, record(URI, b"x", domain.as_bytes())),
+        verdict,
+    )
+}
+
+/// "This holds for [...] records (6)", whatever the kind, and one such record
+/// beside good ones refuses all.
+fn address_records() -> Vec<Example> {
+    let mut table = Vec::new();
+    for (kind, service) in [(DNS, ""), (SRV, "m"), (URI, "m"), (CN, "")] {
+        for domain in ["10.4.0.7", "a.7", "a.b.10"] {
+            let bad = record(kind, service.as_bytes(), domain.as_bytes());
+            let good = record(DNS, b"", b"a.b");
+            let sets = [
+                ("alone", bad.clone()),
+                ("first", [bad.clone(), good.clone()].concat()),
+                ("last", [good, bad].concat()),
+            ];
+            for (place, references) in sets {
+                let number = format!("A28: kind {kind}, {domain} {place}");
+                table.push(example(&number, case(S.to_vec(), references), bare(6)));
+            }
+        }
+        for domain in ["4.example", "a.7b"] {
+            let references = record(kind, service.as_bytes(), domain.as_bytes());
+            let number = format!("A29: kind {kind}, {domain}");
+            table.push(example(&number, case(S.to_vec(), references), bare(1)));
+        }
+    }
+    table
+}
+
+/// A SAN of one SRVName under one permitted restriction, for an SRV reference
+/// and the reference DNS `a.b`.
+fn srv(number: &str, name: &str, permitted: &str, asked: &str, verdict: [u32; 5]) -> Example {
+    let (service, domain) = asked.split_once('.').expect("a service and a domain");
+    let references = [
+        record(SRV, service.as_bytes(), domain.as_bytes()),
+        record(DNS, b"", b"a.b"),
+    ];
+    let side = vec![subtree(srv_name(permitted.as_bytes()))];
+    let case = Case {
+        constraints: constraints(side, Vec::new()).write(),
+        ..case(
+            san(vec![srv_name(name.as_bytes())]).write(),
+            references.concat(),
+        )
+    };
+    example(number, case, verdict)
+}
+
+/// "This holds for [...] SRVNames (no SRV-ID, so 2 where SRVName subtrees
+/// exist)." A service may be all digits.
+fn address_srv_names() -> Vec<Example> {
+    let excluded = Case {
+        constraints: constraints(Vec::new(), vec![subtree(srv_name(b"_n"))]).write(),
+        ..case(
+            san(vec![dns_name(b"a.b"), srv_name(b"_m.7")]).write(),
+            record(DNS, b"", b"a.b"),
+        )
+    };
+    vec![
+        srv("A30", "_m.10.4.0.7", "_m", "m.a.b", bare(2)),
+        srv("A31", "_m.a.7", "_m", "m.a.b", bare(2)),
+        example("A32", excluded, [2, 0, 1, 0, 0]),
+        srv("A33", "_m.4.example", "_m", "m.4.example", [0, 0, 0, 2, 28]),
+        srv("A34", "_m.a.7b", "7b", "m.A.7B", [0, 0, 0, 2, 23]),
+        srv("A35", "_7.a.b", "_7", "7.a.b", [0, 0, 0, 2, 22]),
+        srv("A36", "_7.a.b", "_7.b", "7.a.b", [0, 0, 0, 2, 22]),
+        srv("A37", "_7.4.example", "_7", "7.a.b", bare(1)),
+    ]
+}
+
+/// "This holds for [...] restriction texts (5)". Restrictions of other forms are
+/// "read and passed over" as before.
+fn address_restrictions() -> Vec<Example> {
+    let under = |number: &str, base: Node, verdict: [u32; 5]| {
+        let sides = [("permitted", 0), ("excluded", 1)];
+        sides.map(|(side, excluded)| {
+            let mut subtrees = [Vec::new(), Vec::new()];
+            subtrees[excluded].push(subtree(base.clone()));
+            let [permitted, excluded] = subtrees;
+            let case = Case {
+                constraints: constraints(permitted, excluded).write(),
+                ..case(S.to_vec(), record(DNS, b"", b"a.b"))
+            };
+            example(&format!("{number} {side}"), case, verdict)
+        })
+    };
+    let kept = [0, 0, 0, 2, 5];
+    [
+        under("A38: 10.4.0.7", srv_name(b"10.4.0.7"), bare(5)),
+        under("A38: 7", srv_name(b"7"), bare(5)),
+        under("A38: _m.7", srv_name(b"_m.7"), bare(5)),
+        under("A38: _7.a.7", srv_name(b"_7.a.7"), bare(5)),
+        under("A39: _7", srv_name(b"_7"), kept),
+        under("A39: 4.example", srv_name(b"4.example"), kept),
+        under("A39: _m.a.7b", srv_name(b"_m.a.7b"), kept),
+        under("A40: dNSName", dns_name(b"10.4.0.7"), kept),
+        under("A40: URI", uri_name(b"x://10.4.0.7"), kept),
+    ]
+    .concat()
 }

@@ -1,8 +1,8 @@
 //! A second implementation of the certificate name check, written from the
-//! document "The rules and what will be built" (document 01) and request 1/13
-//! of "New change requests from customers" (document 02) alone. Quoted
-//! sentences in the comments are document 01's, or that request's where they
-//! say so.
+//! document "The rules and what will be built" (document 01) and requests 1/13
+//! and 2/13 of "New change requests from customers" (document 02) alone. Quoted
+//! sentences in the comments are document 01's, or a request's where they say
+//! so.
 
 pub mod constraints;
 pub mod der;

@@ -36,7 +36,8 @@ impl<'a> Reference<'a> {
     /// length. [...] Kinds 1 and 4 have service length 0. Kind 2: a service as
     /// defined below [...] Kind 3: a URI scheme [...] The domain is as defined
     /// below, without a wildcard." Request 1/13, of records of every kind: "a
-    /// reference record whose domain has one label is refused with 6".
+    /// reference record whose domain has one label is refused with 6". Request
+    /// 2/13, of what a domain is: "This holds for [...] records (6)".
     fn read(record: &'a [u8]) -> Option<Self> {
         let [kind, zero, service_length, domain_length, ..] = *record else {
             return None;

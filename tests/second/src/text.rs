@@ -20,12 +20,20 @@ fn is_label(text: &[u8], longest: usize) -> bool {
 }
 
 /// "Domain: at most 253 bytes, one or more labels of 1 to 63 bytes joined by
-/// single dots. [...] No trailing dot."
+/// single dots. [...] No trailing dot." Request 2/13: "Document 01 was wrong to
+/// allow digits everywhere: the last label of a domain may not be all digits."
 pub fn is_domain(text: &[u8]) -> bool {
-    text.len() <= LONGEST_DOMAIN
-        && text
-            .split(|&byte| byte == b'.')
-            .all(|label| is_label(label, LONGEST_LABEL))
+    if text.len() > LONGEST_DOMAIN {
+        return false;
+    }
+    let mut last: &[u8] = b"";
+    for label in text.split(|&byte| byte == b'.') {
+        if !is_label(label, LONGEST_LABEL) {
+            return false;
+        }
+        last = label;
+    }
+    !last.iter().all(u8::is_ascii_digit)
 }
 
 /// Whether a domain has two labels or more, which request 1/13 asks of what
@@ -108,7 +116,8 @@ fn subtree_parts(text: &[u8]) -> (Option<&[u8]>, Option<&[u8]>) {
 }
 
 /// "An SRVName here has one of three texts: `_service`, `_service.domain`,
-/// `domain`."
+/// `domain`." A service may be all digits; of a domain, request 2/13 says: "This
+/// holds for [...] restriction texts (5)".
 pub fn is_srv_subtree(text: &[u8]) -> bool {
     let (service, domain) = subtree_parts(text);
     service.is_none_or(is_service) && domain.is_none_or(is_domain)

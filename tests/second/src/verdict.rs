@@ -140,7 +140,7 @@ impl<'a> Search<'a> {
     /// Compares one SAN entry. "CN references count only if the SAN has no
     /// entry tagged 82 or 86 and no SRVName, readable as a name or not."
     /// Request 1/13: "A dNSName that is no longer a DNS-ID still blocks the
-    /// CN."
+    /// CN." So does one that ends in digits, and a URI or an SRVName (2/13).
     #[inline]
     fn entry(&mut self, name: Name<'a>) {
         match name.row.kind {
@@ -165,7 +165,8 @@ impl<'a> Search<'a> {
     /// "From now on a wildcard needs at least two labels after it, in DNS-ID
     /// and CN-ID"; a reference has a parent only where that has them. A text
     /// equal to the domain of a record, or to a part of it from a label on,
-    /// needs no test of its own: it is a domain, and not too long.
+    /// needs no test of its own: it is a domain, not too long, and its last
+    /// label is the record's, which has more than digits (request 2/13).
     #[inline]
     fn domain(&mut self, kind: u8, name: Name<'a>) {
         match name.text.strip_prefix(b"*.") {

@@ -5,7 +5,7 @@
 use second::generate::{self, boundary, Case};
 use second::name::{kind as row_kind, Name};
 use second::records::{kind, Reference, References};
-use second::text::{is_domain, is_scheme, is_service, srv_id, uri_parts};
+use second::text::{self, is_scheme, is_service, srv_parts, uri_parts};
 use second::{answer, constraints, judge, san, subject, Outcome};
 
 const CASES: u64 = 60_000;
@@ -23,6 +23,25 @@ fn boundary_table() {
     boundary::each(&mut |(what, case)| {
         assert_eq!(ours(&case), literal(&case), "{what}: {case:02X?}");
     });
+}
+
+/// Every text of up to six bytes over an alphabet of the bytes that decide.
+#[test]
+fn small_texts() {
+    let mut texts = vec![Vec::new()];
+    for _ in 0..6 {
+        let longer = texts.iter().flat_map(|text: &Vec<u8>| {
+            let text = text.as_slice();
+            b"a7.-_".iter().map(move |&byte| [text, &[byte]].concat())
+        });
+        let longer: Vec<Vec<u8>> = longer.collect();
+        for text in &longer {
+            assert_eq!(text::is_domain(text), is_domain(text), "{text:?}");
+            assert_eq!(text::srv_id(text), srv_id(text), "{text:?}");
+            assert_eq!(text::is_srv_subtree(text), is_srv_subtree(text), "{text:?}");
+        }
+        texts = longer;
+    }
 }
 
 /// The five numbers of the verdict and the witness's text.
@@ -54,7 +73,8 @@ fn literal(case: &Case) -> Numbers<'_> {
     // Request 1/13: "a reference record whose domain has one label is refused
     // with 6".
     let mut records = references.as_slice().iter();
-    if records.any(|reference| labels(reference.domain).len() < 2) {
+    let bad = |domain: &[u8]| !is_domain(domain) || labels(domain).len() < 2;
+    if records.any(|reference| bad(reference.domain)) {
         return bare(answer::REFERENCES_UNREADABLE);
     }
     let (mut entries, mut attributes, mut subtrees) = (Vec::new(), Vec::new(), Vec::new());
@@ -68,6 +88,9 @@ fn literal(case: &Case) -> Numbers<'_> {
         return bare(answer::CONSTRAINTS_UNREADABLE);
     }
     subtrees.retain(|subtree| subtree.row.kind == row_kind::SRV);
+    if subtrees.iter().any(|subtree| !is_srv_subtree(subtree.text)) {
+        return bare(answer::CONSTRAINTS_UNREADABLE);
+    }
     if let Some(broken) = entries.iter().find(|entry| breaks(entry, &subtrees)) {
         let presented = broken.row.group as u32;
         return ([answer::CONSTRAINTS_BROKEN, 0, presented, 0, 0], b"");
@@ -128,6 +151,36 @@ fn lies_in(service: &[u8], domain: &[u8], subtree: &[u8]) -> bool {
         }
     }
     domain.ends_with(&wanted)
+}
+
+/// A domain, label by label. Request 2/13: "the last label of a domain may not
+/// be all digits": a byte of it is a letter or a hyphen.
+fn is_domain(text: &[u8]) -> bool {
+    let labels = labels(text);
+    let is_label = |label: &Vec<u8>| {
+        let ends = [label.first(), label.last()];
+        (1..64).contains(&label.len())
+            && label
+                .iter()
+                .all(|byte| matches!(byte, b'a'..=b'z' | b'0'..=b'9' | b'-'))
+            && !ends.contains(&Some(&b'-'))
+    };
+    let named = |label: &Vec<u8>| label.iter().any(|byte| matches!(byte, b'a'..=b'z' | b'-'));
+    text.len() < 254 && labels.iter().all(is_label) && labels.last().is_some_and(named)
+}
+
+/// Service and domain of an SRV-ID.
+fn srv_id(text: &[u8]) -> Option<(&[u8], &[u8])> {
+    srv_parts(text).filter(|(service, domain)| is_service(service) && is_domain(domain))
+}
+
+/// "`_service`, `_service.domain`, `domain`"
+fn is_srv_subtree(text: &[u8]) -> bool {
+    match text.strip_prefix(b"_") {
+        Some(service) if is_service(service) => true,
+        Some(_) => srv_id(text).is_some(),
+        None => is_domain(text),
+    }
 }
 
 /// The labels of a domain, in small letters.

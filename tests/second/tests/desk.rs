@@ -1,5 +1,5 @@
-//! The desk examples and old faults of document 01 and the examples of request
-//! 1/13, by number.
+//! The desk examples and old faults of document 01 and the examples of requests
+//! 1/13 and 2/13, by number.
 
 use second::examples::{table, J, S};
 use second::records::kind::{CN, DNS, SRV, URI};
@@ -28,12 +28,24 @@ fn every_number_is_in_the_table() {
     let wanted = wanted.chain((1..=7).map(|number| format!("D{number}")));
     let wanted = wanted.chain((1..=9).map(|number| format!("L{number}")));
     let wanted = wanted.chain((11..=14).map(|number| format!("L{number}")));
+    let wanted = wanted.chain((7..=27).map(|number| format!("A{number}")));
+    let wanted = wanted.chain((30..=37).map(|number| format!("A{number}")));
     for number in wanted.chain(["F1", "F2", "F3", "F4"].map(String::from)) {
         assert!(numbers.contains(&number), "{number} is missing");
     }
     let starting = |start: &str| numbers.iter().filter(|one| one.starts_with(start)).count();
     assert_eq!(starting("D8"), 11);
     assert_eq!(starting("L10"), 12);
+    for number in ["A1:", "A2:", "A3:", "A4:", "A5:"] {
+        assert_eq!(starting(number), 3, "{number}");
+    }
+    let counts = [("A6", 4), ("A28", 36), ("A29", 8)];
+    for (number, count) in counts
+        .into_iter()
+        .chain([("A38", 8), ("A39", 6), ("A40", 4)])
+    {
+        assert_eq!(starting(number), count, "{number}");
+    }
 }
 
 #[test]

@@ -115,6 +115,34 @@ fn one_label() {
     }
 }
 
+/// Request 2/13: "the last label of a domain may not be all digits. This holds
+/// for [...] records (6)".
+#[test]
+fn last_label_of_digits() {
+    let refused = RecordView {
+        answer: 6,
+        ..RecordView::default()
+    };
+    let digits = [b"a.".as_slice(), &[b'0'; 63]].concat();
+    for (kind, service) in [(DNS, ""), (SRV, "7"), (URI, "m7"), (CN, "")] {
+        let write = |domain: &[u8]| write(kind, service.as_bytes(), domain);
+        for domain in [b"4.example".as_slice(), b"a.7b", b"a.0x7", b"7.7-7"] {
+            assert_eq!(record(&write(domain), 0).answer, 0, "{kind} {domain:?}");
+        }
+        for domain in [b"10.4.0.7".as_slice(), b"7", b"a.7", b"a.b.10", &digits] {
+            assert_eq!(record(&write(domain), 0), refused, "{kind} {domain:?}");
+        }
+        for place in 0..16 {
+            let mut records = vec![write(b"7.7b"); 16];
+            assert_eq!(record(&records.concat(), place).answer, 0);
+            records[place] = write(b"7b.7");
+            for index in 0..17 {
+                assert_eq!(record(&records.concat(), index), refused, "{kind} {place}");
+            }
+        }
+    }
+}
+
 #[test]
 fn zeros_outside_of_the_texts() {
     let good = write(SRV, b"mail", b"a.b");

@@ -219,6 +219,32 @@ fn shapes_of_constraints() {
     assert_eq!(read(vec![parts(0xA0, vec![subtree(srv_name(b"*.b"))])]), 5);
 }
 
+/// Request 2/13: "This holds for [...] restriction texts (5)"; other forms are
+/// "read and passed over".
+#[test]
+fn restrictions_that_end_in_digits() {
+    let read = |base: Node| {
+        let side = |tag| parts(0x30, vec![parts(tag, vec![subtree(base.clone())])]).write();
+        let answers = [0xA0, 0xA1].map(|tag| answer(&side(tag), Which::Constraints));
+        assert_eq!(answers[0], answers[1]);
+        answers[0]
+    };
+    for text in ["10.4.0.7", "7", "a.7", "_m.7", "_7.10.4.0.7"] {
+        assert_eq!(read(srv_name(text.as_bytes())), 5, "{text}");
+        assert_eq!(read(dns_name(text.as_bytes())), 0, "{text}");
+    }
+    for text in ["_7", "4.example", "a.7b", "_m.4.example", "_7.a.7b", "7b"] {
+        assert_eq!(read(srv_name(text.as_bytes())), 0, "{text}");
+    }
+    let two = vec![subtree(srv_name(b"_m")), subtree(srv_name(b"10.4.0.7"))];
+    assert_eq!(
+        answer(&constraints(two, vec![]).write(), Which::Constraints),
+        5
+    );
+    // A SAN is readable whatever its SRVNames say.
+    assert_eq!(answer(&san(vec![srv_name(b"_m.7")]).write(), Which::San), 0);
+}
+
 const OLD: [Row; 5] = [Row {
     kind: 77,
     start: 78,

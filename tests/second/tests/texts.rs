@@ -6,7 +6,7 @@ use second::text::*;
 #[test]
 fn domains() {
     let good = [
-        "a", "0", "a.b", "1.2.3.4", "a-b.c", "xn--p1ai", "A.Z.0.9", "a--b",
+        "a", "0x", "a.b", "1.2.3.4a", "a-b.c", "xn--p1ai", "0.9.A.Z", "a--b",
     ];
     for text in good {
         assert!(is_domain(text.as_bytes()), "{text}");
@@ -17,6 +17,40 @@ fn domains() {
     ];
     for text in bad {
         assert!(!is_domain(text.as_bytes()), "{text}");
+    }
+}
+
+/// Request 2/13: "the last label of a domain may not be all digits."
+#[test]
+fn last_labels() {
+    let good = "4.example a.7b 7b b7 a.b7 a.0x7 7-7 a.7-7 10.4.0.7b 10.4.0.b7 a.7.b 7.a.0.b \
+                0.1.2.3.4.5.6.7.8.9.a 9.z 0.A a.9Z9 1--1 a.00000000x";
+    for text in good.split(' ') {
+        assert!(is_domain(text.as_bytes()), "{text}");
+    }
+    let bad = "10.4.0.7 7 a.7 a.b.7 0 9 a.0 a.9 a.10 xn--p1ai.0123456789 1.2.3.4 A.Z.0.9 b.00 \
+               7b.7 a.7b.7 7-7.7 a.7. a.-7 a.7- a.7:7 a.7/7 a./ a.: a.7_7";
+    for text in bad.split(' ') {
+        assert!(!is_domain(text.as_bytes()), "{text}");
+    }
+    let long = domain_of(251);
+    assert!(!is_domain(&[&long, b".7".as_slice()].concat()));
+    assert!(is_domain(&[&long, b".z".as_slice()].concat()));
+}
+
+#[test]
+fn digits_and_one_other_byte_in_a_last_label() {
+    for digit in b'0'..=b'9' {
+        assert!(!is_domain(&[b'a', b'.', digit]));
+        assert!(!is_domain(&[b"a.".as_slice(), &[digit; 63]].concat()));
+        for other in [b'a', b'z', b'A', b'Z', b'-'] {
+            for place in 0..63 {
+                let mut label = [digit; 63];
+                label[place] = other;
+                let inside = other != b'-' || (1..62).contains(&place);
+                assert_eq!(is_domain(&[b"a.".as_slice(), &label].concat()), inside);
+            }
+        }
     }
 }
 
@@ -77,6 +111,9 @@ fn srv_ids() {
         parts("_m-n.a.b"),
         Some((b"m-n".as_slice(), b"a.b".as_slice()))
     );
+    for text in ["_7.a.b", "_m.4.example", "_m.a.7b", "_7.7b"] {
+        assert!(parts(text).is_some(), "{text}");
+    }
     for text in [
         "",
         "_",
@@ -91,6 +128,9 @@ fn srv_ids() {
         "_-m.b",
         "_m.b.",
         "_m..b",
+        "_m.7",
+        "_m.10.4.0.7",
+        "_7.7",
     ] {
         assert_eq!(parts(text), None, "{text}");
     }
@@ -180,12 +220,33 @@ fn texts_without_scheme_or_authority() {
 
 #[test]
 fn subtrees() {
-    for text in ["_m", "_m.b", "_m.a.b", "b", "a.b", "1"] {
+    for text in [
+        "_m", "_m.b", "_m.a.b", "b", "a.b", "7b", "1.b", "_7", "_7.b", "_m.4.b",
+    ] {
         assert!(is_srv_subtree(text.as_bytes()), "{text}");
     }
     for text in [
-        "", "_", "_.b", "_m.", "_m..b", ".b", "b.", "*", "*.b", "_m.*.b", "_-m", "__m", "_m-.b",
+        "",
+        "_",
+        "_.b",
+        "_m.",
+        "_m..b",
+        ".b",
+        "b.",
+        "*",
+        "*.b",
+        "_m.*.b",
+        "_-m",
+        "__m",
+        "_m-.b",
         "_m\0",
+        "7",
+        "a.7",
+        "10.4.0.7",
+        "_m.7",
+        "_m.10.4.0.7",
+        "_7.7",
+        "_m.b.0",
     ] {
         assert!(!is_srv_subtree(text.as_bytes()), "{text}");
     }
