@@ -216,8 +216,9 @@ fn split(text: &[u8]) -> (&[u8], &[u8]) {
     }
 }
 
+/// One label, of digits alone too.
 fn is_label(text: &[u8]) -> bool {
-    is_domain(text) && !text.contains(&b'.')
+    is_domain(&[text, b".b"].concat()) && !text.contains(&b'.')
 }
 
 /// The domain that a record's length byte gives it.

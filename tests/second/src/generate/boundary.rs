@@ -3,6 +3,7 @@
 mod far;
 mod labels;
 mod lengths;
+mod numbers;
 mod uris;
 
 use super::draft::{padded_constraints, padded_san, padded_subject};
@@ -41,6 +42,7 @@ pub fn each(take: Taker) {
     far::each(take);
     labels::each(take);
     lengths::each(take);
+    numbers::each(take);
     uris::each(take);
 }
 
@@ -613,14 +615,14 @@ fn small_texts(take: Taker) {
 }
 
 /// What the small texts are asked for; each has the two labels that a record
-/// needs.
+/// needs, and ends in a letter.
 const SMALL_DOMAINS: [&[u8]; 4] = [b"a.a", b"0.a", b"a.0.a", b"0.a.a"];
 
 /// Every small text as the authority of a URI. The letter stands for a domain
 /// of two labels, so that there is room for other parts beside it.
 fn small_uris(take: Taker) {
     for text in texts(b"a:@/.0?#", 4) {
-        let references = [record(URI, b"a", b"a.a"), record(URI, b"a", b"a.a.0")];
+        let references = [record(URI, b"a", b"a.a"), record(URI, b"a", b"0.a.a")];
         let mut name = b"A://".to_vec();
         for byte in text {
             match byte {

@@ -1,7 +1,7 @@
 //! Drafts of cases: trees that can still be changed before they are written.
 
 use super::crowd::{alike_set, wide_set};
-use super::words::{near_miss, one_label, Pool};
+use super::words::{near_miss, numbered, one_label, Pool};
 use super::{Case, Random};
 use crate::longest;
 use crate::records::kind::{CN, DNS, SRV, URI};
@@ -48,8 +48,10 @@ impl Draft {
         let mut entries: Vec<Node> = (0..random.between(1, 3))
             .map(|_| other_entry(random))
             .collect();
-        if random.one_in(8) {
-            entries.push(entry(random, pool));
+        match random.below(24) {
+            0..=1 => entries.push(entry(random, pool)),
+            2..=3 => entries.push(numbered_entry(random, pool)),
+            _ => {}
         }
         let sets = (0..random.between(1, 4))
             .map(|_| set(random, pool))
@@ -134,7 +136,8 @@ pub fn padded_constraints(size: usize) -> Node {
 }
 
 /// One to sixteen records, seldom none or more; each seldom a broken one, and
-/// one of them in one case of forty with a domain of one label.
+/// one of them in one case of 35 with a domain of one label, or with one that
+/// ends in digits or nearly does.
 pub fn references(random: &mut Random, pool: &Pool, kinds: &[u8]) -> Vec<Vec<u8>> {
     let count = match random.below(60) {
         0 => 0,
@@ -149,10 +152,17 @@ pub fn references(random: &mut Random, pool: &Pool, kinds: &[u8]) -> Vec<Vec<u8>
         reference(random, pool, kind)
     };
     let mut records: Vec<Vec<u8>> = (0..count).map(|_| one(random)).collect();
-    if count > 0 && random.one_in(40) {
+    if count > 0 && random.one_in(35) {
         let kind = *random.pick(&[DNS, SRV, URI, CN]);
         let service = service(random, pool, kind);
-        records[random.below(count)] = record(kind, &service, &one_label(pool, random));
+        let domain = match random.below(2) {
+            0 => one_label(pool, random),
+            _ => {
+                let asked = pool.asked(random);
+                numbered(random, &asked)
+            }
+        };
+        records[random.below(count)] = record(kind, &service, &domain);
     }
     records
 }
@@ -215,6 +225,18 @@ fn entry(random: &mut Random, pool: &Pool) -> Node {
         4..=5 => srv_name(&srv_text(random, pool, 4)),
         6..=7 => uri_name(&uri_text(random, pool)),
         _ => other_entry(random),
+    }
+}
+
+/// A dNSName, an SRVName or a URI that ends in digits or nearly does, and so is
+/// mostly no name of its form.
+fn numbered_entry(random: &mut Random, pool: &Pool) -> Node {
+    let domain = pool.dns_id(random);
+    let domain = numbered(random, &domain);
+    match random.below(4) {
+        0 => srv_name(&[b"_m.", domain.as_slice()].concat()),
+        1 => uri_name(&[b"h://", domain.as_slice()].concat()),
+        _ => dns_name(&domain),
     }
 }
 
@@ -356,13 +378,15 @@ pub fn srv_subtree(random: &mut Random, pool: &Pool) -> Node {
             b"_",
             pool.service(random).as_slice(),
             b".",
-            &pool.domain(random),
+            &pool.around(random),
         ]
         .concat(),
-        _ => pool.domain(random),
+        _ => pool.around(random),
     };
-    if random.one_in(40) {
-        text = near_miss(random, text);
+    match random.below(80) {
+        0..=1 => text = near_miss(random, text),
+        2 => text = numbered(random, &text),
+        _ => {}
     }
     let mut node = subtree(srv_name(&text));
     if random.one_in(80) {
@@ -377,7 +401,7 @@ pub fn srv_subtree(random: &mut Random, pool: &Pool) -> Node {
 /// Subtrees of other forms, which are "read and passed over".
 pub fn other_subtrees(random: &mut Random) -> Vec<Node> {
     let one = |random: &mut Random| match random.below(4) {
-        0 => dns_name(b"example"),
+        0 => dns_name(*random.pick(&[b"example".as_slice(), b"10.4.0.7"])),
         1 => uri_name(b".example"),
         2 => dns_name(b""),
         _ => other_entry(random),

@@ -42,8 +42,8 @@ fn crooked_marks(random: &mut Random) -> (Vec<u8>, Vec<u8>) {
     const BEFORE: [&str; 9] = [
         "://", ":/", "//", ":", ":///", ";//", "://@@", "://u@v@", "://:",
     ];
-    const BEHIND: [&str; 10] = [
-        "", ":8a", ":80:80", ":-1", ":80@", "@", ". ", ":\0", "\\", "\\x/",
+    const BEHIND: [&str; 12] = [
+        "", ":8a", ":80:80", ":-1", ":80@", "@", ". ", ":\0", "\\", "\\x/", ".7", ".7:7",
     ];
     let mut mark = |marks: &[&str]| random.pick(marks).bytes().collect();
     (mark(&BEFORE), mark(&BEHIND))
@@ -69,7 +69,18 @@ fn run(random: &mut Random, bytes: &[u8]) -> Vec<u8> {
 
 /// "optionally a text (perhaps empty) without "@" and then "@""
 fn user(random: &mut Random, long: bool) -> Vec<u8> {
-    const USERS: [&str; 9] = ["", "", "", "", "@", "u@", "u:p@", "a.b:80@", "%40:;=@"];
+    const USERS: [&str; 10] = [
+        "",
+        "",
+        "",
+        "",
+        "@",
+        "u@",
+        "u:p@",
+        "a.b:80@",
+        "%40:;=@",
+        "10.4.0.7@",
+    ];
     if long {
         return [&run(random, USER_BYTES), b"@".as_slice()].concat();
     }
@@ -87,7 +98,9 @@ fn port(random: &mut Random, long: bool) -> Vec<u8> {
 
 /// A path, a query or a fragment, with its first byte.
 fn tail(random: &mut Random, long: bool) -> Vec<u8> {
-    const TAILS: [&str; 10] = ["", "", "", "/", "/x", "?q@r", "#f", "/@:/", "?", "#:x"];
+    const TAILS: [&str; 11] = [
+        "", "", "", "/", "/x", "?q@r", "#f", "/@:/", "?", "#:x", "/.7",
+    ];
     if long {
         return [&[*random.pick(b"/?#")], run(random, TAIL_BYTES).as_slice()].concat();
     }

@@ -8,7 +8,7 @@ use crate::records::MOST_RECORDS;
 use crate::tree::*;
 
 /// Labels that may stand alone.
-const LABELS: [&[u8]; 6] = [b"b", b"B", b"0", b"example", b"xn--p1ai", b"a-b"];
+const LABELS: [&[u8]; 6] = [b"b", b"B", b"0x", b"example", b"xn--p1ai", b"a-b"];
 
 /// Hands over the lines about the number of labels.
 pub fn each(take: Taker) {
