@@ -7,43 +7,43 @@ use Rattle.uri.proofs.host_and_port.Lts as lts
 use Rattle.octets.proofs.from.Reads as from-reads
 use Rattle.uri.proofs.stop.Reads as stop-reads
 
--- src/lib.rt:74:9
+-- src/lib.rt:59:9
 stop-requires : tie.Need-stop-requires
 stop-requires c κs = search needs
 
--- src/lib.rt:76:9
+-- src/lib.rt:61:9
 returns : tie.Need-returns
 returns c = search (needs, laws)
 
--- src/lib.rt:78:8
+-- src/lib.rt:63:8
 shared-slice-read-if2 : tie.Need-shared-slice-read-if2
 shared-slice-read-if2 c = search needs
 
--- src/lib.rt:79:9
+-- src/lib.rt:64:9
 slice-aggregate-result : tie.Need-slice-aggregate-result
 slice-aggregate-result c = search (needs, laws)
 
--- src/lib.rt:79:9
+-- src/lib.rt:64:9
 returns-2 : tie.Need-returns-2
 returns-2 c = search (needs, laws)
 
--- src/lib.rt:81:35
+-- src/lib.rt:66:35
 add-from : tie.Need-add-from
 add-from c = search needs
 
--- src/lib.rt:81:9
+-- src/lib.rt:66:9
 from-requires : tie.Need-from-requires
 from-requires c κs = search needs
 
--- src/lib.rt:82:9
+-- src/lib.rt:67:9
 stop-requires-2 : tie.Need-stop-requires-2
 stop-requires-2 c κs = search needs
 
--- src/lib.rt:83:5
+-- src/lib.rt:68:5
 slice-aggregate-result-2 : tie.Need-slice-aggregate-result-2
 slice-aggregate-result-2 c = search (needs, laws)
 
--- src/lib.rt:71:1
+-- src/lib.rt:56:1
 returns-3 : tie.Need-returns-3
 returns-3 c = search (needs, laws)
 

@@ -5,19 +5,19 @@ use Rattle.uri.proofs.stops.Tie as tie
 use Rattle.uri.proofs.stops.Reads as reads
 use Rattle.uri.proofs.stops.Lts as lts
 
--- src/lib.rt:43:9
+-- src/lib.rt:28:9
 returns : tie.Need-returns
 returns c = search (needs, laws)
 
--- src/lib.rt:46:9
+-- src/lib.rt:31:9
 returns-2 : tie.Need-returns-2
 returns-2 c = search (needs, laws)
 
--- src/lib.rt:49:9
+-- src/lib.rt:34:9
 returns-3 : tie.Need-returns-3
 returns-3 c = search (needs, laws)
 
--- src/lib.rt:39:1
+-- src/lib.rt:24:1
 returns-4 : tie.Need-returns-4
 returns-4 c = search (needs, laws)
 
