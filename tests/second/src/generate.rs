@@ -8,6 +8,7 @@ pub mod random;
 mod uri;
 mod words;
 
+use crate::{judge, Outcome};
 use draft::Draft;
 pub use random::Random;
 use words::Pool;
@@ -19,6 +20,18 @@ pub struct Case {
     pub subject: Vec<u8>,
     pub constraints: Vec<u8>,
     pub references: Vec<u8>,
+}
+
+impl Case {
+    /// What the check says of it.
+    pub fn judged(&self) -> Outcome {
+        judge(
+            &self.san,
+            &self.subject,
+            &self.constraints,
+            &self.references,
+        )
+    }
 }
 
 /// The case of this number under this seed; no other case has a part in it.

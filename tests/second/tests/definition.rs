@@ -6,7 +6,7 @@ use second::generate::{self, boundary, Case};
 use second::name::{kind as row_kind, Name};
 use second::records::{kind, Reference, References};
 use second::text::{self, is_scheme, is_service, srv_parts, uri_parts};
-use second::{answer, constraints, judge, san, subject, Outcome};
+use second::{answer, constraints, san, subject, Outcome};
 
 const CASES: u64 = 60_000;
 
@@ -48,12 +48,7 @@ fn small_texts() {
 type Numbers<'a> = ([u32; 5], &'a [u8]);
 
 fn ours(case: &Case) -> Numbers<'_> {
-    let Outcome { verdict: v, text } = judge(
-        &case.san,
-        &case.subject,
-        &case.constraints,
-        &case.references,
-    );
+    let Outcome { verdict: v, text } = case.judged();
     let of_cn = v.answer == 0 && case.references[v.reference as usize * 320] == kind::CN;
     let holder = if of_cn { &case.subject } else { &case.san };
     let text = &holder[text.start as usize..][..text.length as usize];

@@ -7,7 +7,7 @@ use second::name::kind::{CN as CN_ROW, DNS as DNS_ROW, SRV as SRV_ROW, URI as UR
 use second::records::kind::{CN, DNS, SRV, URI};
 use second::records::RECORD;
 use second::text::is_domain;
-use second::{answer, judge, list, record, san, subject, Outcome, Which};
+use second::{answer, list, record, san, subject, Outcome, Which};
 
 const CASES: u64 = 40_000;
 
@@ -15,12 +15,7 @@ const CASES: u64 = 40_000;
 fn cases() -> impl Iterator<Item = (Case, Outcome)> {
     (0..CASES).map(|number| {
         let case = case(7, number);
-        let outcome = judge(
-            &case.san,
-            &case.subject,
-            &case.constraints,
-            &case.references,
-        );
+        let outcome = case.judged();
         (case, outcome)
     })
 }

@@ -83,12 +83,7 @@ fn the_digits_of_request_2_are_tried() {
     let mut counts = vec![0; kinds.len()];
     for number in 0..CASES {
         let case = case(7, number);
-        let outcome = judge(
-            &case.san,
-            &case.subject,
-            &case.constraints,
-            &case.references,
-        );
+        let outcome = case.judged();
         for (count, (_, _, is)) in counts.iter_mut().zip(&kinds) {
             *count += u32::from(is(&case, &outcome));
         }

@@ -169,15 +169,26 @@ fn restrictions(take: Taker, text: &[u8]) {
 fn records(take: Taker, text: &[u8]) {
     for (kind, service) in [(DNS, ""), (SRV, "m"), (URI, "m"), (CN, "")] {
         for (place, count) in [(0, 2), (1, 2), (15, 16)] {
-            let mut records = vec![base().references; count];
-            records[place] = record(kind, service.as_bytes(), text);
-            let case = Case {
-                references: records.concat(),
-                ..base()
-            };
-            take((format!("record {place} of {count}, kind {kind}"), case));
+            among_records(take, (place, count), kind, service, text);
         }
     }
+}
+
+/// One record with this text, among good ones.
+fn among_records(
+    take: Taker,
+    (place, count): (usize, usize),
+    kind: u8,
+    service: &str,
+    text: &[u8],
+) {
+    let mut records = vec![base().references; count];
+    records[place] = record(kind, service.as_bytes(), text);
+    let case = Case {
+        references: records.concat(),
+        ..base()
+    };
+    take((format!("record {place} of {count}, kind {kind}"), case));
 }
 
 /// Every byte value as a last label, and before, behind and between digits.
@@ -220,13 +231,7 @@ fn places(take: Taker) {
         for place in 0..count {
             for (kind, service) in [(DNS, ""), (SRV, "7"), (URI, "x7"), (CN, "")] {
                 for text in [b"7b.7".as_slice(), b"7.7b"] {
-                    let mut records = vec![base().references; count];
-                    records[place] = record(kind, service.as_bytes(), text);
-                    let case = Case {
-                        references: records.concat(),
-                        ..base()
-                    };
-                    take((format!("record {place} of {count}, kind {kind}"), case));
+                    among_records(take, (place, count), kind, service, text);
                 }
             }
         }
