@@ -59,8 +59,8 @@
  * WILDCARDS. A dNSName or a CN may begin with "*.", which stands for one whole label, and then has two labels or more behind it:
  * "*.branch.example" matches a reference "desk.branch.example", and "*.example" matches none.
  *
- * ADDRESSES. A domain whose last label is all digits, as in "10.4.0.7", is none: such a dNSName, SRVName, URI or CN matches nothing.
- * Other labels are not judged so: "4.example" and "a.7b" are domains.
+ * ADDRESSES. A domain whose last label is all digits, as in "10.4.0.7", is none: such a dNSName, SRVName, URI or CN matches nothing,
+ * and such an SRVName breaks any SRVName constraints (2). Other labels are not judged so: "4.example" and "a.7b" are domains.
  */
 #ifndef BECKETHAND_H
 #define BECKETHAND_H

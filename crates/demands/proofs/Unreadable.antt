@@ -27,10 +27,10 @@ use Rattle.demands.proofs.Demands.{demand1}
 
 -- "SAN `30 81 05 82 03 61 2E 62` and `30 00`: answer 3": a length that is not shortest, and no name
 abbrev pub longForm : List ℕ
-longForm = 0x30 ∷ 0x81 ∷ 0x05 ∷ 0x82 ∷ 0x03 ∷ 0x61 ∷ 0x2E ∷ 0x62 ∷ []
+longForm = hex "30 81 05 82 03 61 2E 62"
 
 abbrev pub noElement : List ℕ
-noElement = 0x30 ∷ 0x00 ∷ []
+noElement = hex "30 00"
 
 -- 2/13: "restriction texts (5)": constraints that permit `_m.7`
 abbrev pub addressRestriction : List ℕ

@@ -117,7 +117,7 @@ unfoldable pub liesIn : List (List ℕ) → List ℕ → Bool
 liesIn subtrees text = any (λ s. inSubtree s text) subtrees
 
 -- "if the constraints hold any SRVName subtree, each presented SRVName must be an SRV-ID, lie in no excluded SRVName
--- subtree, and, if any permitted SRVName subtree exists, lie in one"
+-- subtree, and, if any permitted SRVName subtree exists, lie in one". 2/13: "no SRV-ID, so 2 where SRVName subtrees exist"
 unfoldable pub allowed : List (Member GeneralName) → List ℕ → Bool
 allowed constraints text =
     let inside = srvSubtrees permitted constraints in

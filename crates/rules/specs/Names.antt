@@ -90,8 +90,8 @@ lastOf (l ∷ []) = l
 lastOf (l ∷ m ∷ ls) = lastOf (m ∷ ls)
 
 -- "Domain: at most 253 bytes, one or more labels of 1 to 63 bytes joined by single dots. .. No trailing dot."
--- 2/13: "the last label of a domain may not be all digits. This holds for presented names, records (6), restriction texts (5)
--- and SRVNames": each of them asks for a domain, below and in Records.
+-- 2/13: "the last label of a domain may not be all digits. This holds for presented names": DNS-ID, CN-ID, SRV-ID and URI-ID ask for
+-- a domain
 unfoldable pub domain : List ℕ → Bool
 domain s = leb (length s) 253 && all label (labels s) && not (all digit (lastOf (labels s)))
 
@@ -153,7 +153,7 @@ serviceOf s = before (is dot) (drop 1 s)
 unfoldable pub domainOf : List ℕ → List ℕ
 domainOf s = after (is dot) s
 
--- "SRV-ID: "_", a service, ".", a domain without wildcard"
+-- "SRV-ID: "_", a service, ".", a domain without wildcard". 2/13: "This holds for .. SRVNames (no SRV-ID ..)"
 unfoldable pub srvId : List ℕ → Bool
 srvId s = begins (underscore ∷ []) s && service (serviceOf s) && domain (domainOf s)
 
@@ -202,7 +202,8 @@ uriMatches schemeName domainName text =
 
 -- ---- SRVName restrictions
 
--- "An SRVName here has one of three texts: `_service`, `_service.domain`, `domain`."
+-- "An SRVName here has one of three texts: `_service`, `_service.domain`, `domain`." 2/13: "This holds for .. restriction
+-- texts (5)"
 unfoldable pub restriction : List ℕ → Bool
 restriction s = (begins (underscore ∷ []) s && service (drop 1 s)) || srvId s || domain s
 

@@ -33,7 +33,8 @@ goodService kind s =
     cond (eqb kind dnsKind || eqb kind cnKind) (eqb (length s) 0)
     (cond (eqb kind srvKind) (service s) (cond (eqb kind uriKind) (scheme s) false))
 
--- "The domain is as defined below, without a wildcard." 1/13: "a reference record whose domain has one label is refused with 6"
+-- "The domain is as defined below, without a wildcard." 1/13: "a reference record whose domain has one label is refused with 6".
+-- 2/13: "This holds for .. records (6)"
 unfoldable pub goodReference : Reference → Bool
 goodReference r = goodService (r .kind) (r .service) && domain (r .domain) && twoLabels (r .domain)
 

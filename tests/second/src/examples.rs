@@ -340,14 +340,7 @@ fn one_label_records() -> Vec<Example> {
     ];
     let mut table = Vec::new();
     for (kind, service, name) in kinds {
-        let one = record(kind, service.as_bytes(), b"b");
-        let good = record(DNS, b"", b"a.b");
-        let sets = [
-            ("alone", one.clone()),
-            ("first", [one.clone(), good.clone()].concat()),
-            ("last", [good, one].concat()),
-        ];
-        for (place, references) in sets {
+        for (place, references) in among_good(record(kind, service.as_bytes(), b"b")) {
             let case = Case {
                 san: san(vec![name.clone()]).write(),
                 subject: named("b"),
@@ -358,6 +351,16 @@ fn one_label_records() -> Vec<Example> {
         }
     }
     table
+}
+
+/// A record alone, before a good one and behind one.
+fn among_good(bad: Vec<u8>) -> [(&'static str, Vec<u8>); 3] {
+    let good = record(DNS, b"", b"a.b");
+    [
+        ("alone", bad.clone()),
+        ("first", [bad.clone(), good.clone()].concat()),
+        ("last", [good, bad].concat()),
+    ]
 }
 
 /// "Restrictions and presented names without a wildcard may keep one label".
@@ -459,13 +462,7 @@ fn address_records() -> Vec<Example> {
     for (kind, service) in [(DNS, ""), (SRV, "m"), (URI, "m"), (CN, "")] {
         for domain in ["10.4.0.7", "a.7", "a.b.10"] {
             let bad = record(kind, service.as_bytes(), domain.as_bytes());
-            let good = record(DNS, b"", b"a.b");
-            let sets = [
-                ("alone", bad.clone()),
-                ("first", [bad.clone(), good.clone()].concat()),
-                ("last", [good, bad].concat()),
-            ];
-            for (place, references) in sets {
+            for (place, references) in among_good(bad) {
                 let number = format!("A28: kind {kind}, {domain} {place}");
                 table.push(example(&number, case(S.to_vec(), references), bare(6)));
             }

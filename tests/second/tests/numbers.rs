@@ -44,51 +44,42 @@ const REFUSED: [Numbered; 11] = [
     ("CN behind a name of digits", 20, blocked),
 ];
 
-const MATCHED: [Numbered; 10] = [
-    ("DNS match, digits save a byte last", 50, |case, outcome| {
-        matched(case, outcome, DNS, false).is_some_and(near_last)
-    }),
-    ("wildcard, digits save a byte last", 30, |case, outcome| {
-        matched(case, outcome, DNS, true).is_some_and(near_last)
-    }),
-    ("SRV match, digits save a byte last", 50, |case, outcome| {
-        matched(case, outcome, SRV, false).is_some_and(near_last)
-    }),
-    ("URI match, digits save a byte last", 30, |case, outcome| {
-        matched(case, outcome, URI, false).is_some_and(near_last)
-    }),
-    ("CN match, digits save a byte last", 30, |case, outcome| {
-        matched(case, outcome, CN, false).is_some_and(near_last)
-    }),
-    ("DNS match, digits first", 30, |case, outcome| {
-        matched(case, outcome, DNS, false).is_some_and(digits_first)
-    }),
-    ("wildcard, digits behind it", 20, |case, outcome| {
-        matched(case, outcome, DNS, true).is_some_and(digits_second)
-    }),
-    ("SRV match, digits first", 30, |case, outcome| {
-        matched(case, outcome, SRV, false).is_some_and(digits_first)
-    }),
-    ("URI match, digits first", 20, |case, outcome| {
-        matched(case, outcome, URI, false).is_some_and(digits_first)
-    }),
-    ("CN match, digits first", 20, |case, outcome| {
-        matched(case, outcome, CN, false).is_some_and(digits_first)
-    }),
+/// The same for a match: the kind of its record, whether its name has a
+/// wildcard, and how the record's domain is told.
+type Matched = (&'static str, u32, u8, bool, fn(&[u8]) -> bool);
+
+const MATCHED: [Matched; 10] = [
+    ("DNS match, nearly digits last", 50, DNS, false, near_last),
+    ("wildcard, nearly digits last", 30, DNS, true, near_last),
+    ("SRV match, nearly digits last", 50, SRV, false, near_last),
+    ("URI match, nearly digits last", 30, URI, false, near_last),
+    ("CN match, nearly digits last", 30, CN, false, near_last),
+    ("DNS match, digits first", 30, DNS, false, digits_first),
+    ("wildcard, digits behind it", 20, DNS, true, digits_second),
+    ("SRV match, digits first", 30, SRV, false, digits_first),
+    ("URI match, digits first", 20, URI, false, digits_first),
+    ("CN match, digits first", 20, CN, false, digits_first),
 ];
 
 #[test]
 fn the_digits_of_request_2_are_tried() {
-    let kinds: Vec<Numbered> = REFUSED.into_iter().chain(MATCHED).collect();
-    let mut counts = vec![0; kinds.len()];
+    let mut refused = [0; REFUSED.len()];
+    let mut matches = [0; MATCHED.len()];
     for number in 0..CASES {
         let case = case(7, number);
         let outcome = case.judged();
-        for (count, (_, _, is)) in counts.iter_mut().zip(&kinds) {
+        for (count, (_, _, is)) in refused.iter_mut().zip(REFUSED) {
             *count += u32::from(is(&case, &outcome));
         }
+        for (count, (_, _, kind, wildcard, is)) in matches.iter_mut().zip(MATCHED) {
+            let domain = matched(&case, &outcome, kind, wildcard);
+            *count += u32::from(domain.is_some_and(is));
+        }
     }
-    for (count, (what, least, _)) in counts.into_iter().zip(kinds) {
+    let leasts = REFUSED.map(|(what, least, _)| (what, least));
+    let matched_leasts = MATCHED.map(|(what, least, ..)| (what, least));
+    let leasts = leasts.into_iter().chain(matched_leasts);
+    for (count, (what, least)) in refused.into_iter().chain(matches).zip(leasts) {
         assert!(count >= least, "{what}: {count} of {CASES}");
     }
 }

@@ -9,6 +9,13 @@ fn answer(references: &[u8]) -> u32 {
     record(references, 0).answer
 }
 
+fn refused() -> RecordView {
+    RecordView {
+        answer: 6,
+        ..RecordView::default()
+    }
+}
+
 #[test]
 fn one_record_of_each_kind() {
     let view = |kind, service_length, domain_length| RecordView {
@@ -41,13 +48,7 @@ fn counts_and_indexes() {
     assert_eq!(answer(&[0; 5_120]), 6);
     assert_eq!(answer(&[0; 5_121]), 7);
     let last_broken = [one.repeat(15), write(9, b"", b"a.b")].concat();
-    assert_eq!(
-        record(&last_broken, 0),
-        RecordView {
-            answer: 6,
-            ..RecordView::default()
-        }
-    );
+    assert_eq!(record(&last_broken, 0), refused());
 }
 
 #[test]
@@ -92,25 +93,26 @@ fn fields() {
 /// with 6".
 #[test]
 fn one_label() {
-    let refused = RecordView {
-        answer: 6,
-        ..RecordView::default()
-    };
     let long = [b'l'; 63];
     for (kind, service) in [(DNS, ""), (SRV, "m"), (URI, "m"), (CN, "")] {
         let write = |domain: &[u8]| write(kind, service.as_bytes(), domain);
         for domain in [b"b".as_slice(), b"B", b"0", b"a-b", b"xn--p1ai", &long] {
-            assert_eq!(record(&write(domain), 0), refused, "{kind} {domain:?}");
+            assert_eq!(record(&write(domain), 0), refused(), "{kind} {domain:?}");
             let second = [domain, b".c"].concat();
             assert_eq!(record(&write(&second), 0).answer, 0, "{kind} {second:?}");
         }
-        for place in 0..16 {
-            let mut records = vec![write(b"b.c"); 16];
-            assert_eq!(record(&records.concat(), place).answer, 0);
-            records[place] = write(b"b");
-            for index in 0..17 {
-                assert_eq!(record(&records.concat(), index), refused, "{kind} {place}");
-            }
+        one_refuses_all(&write(b"b.c"), &write(b"b"));
+    }
+}
+
+/// A bad record at each place of sixteen is refused at every index.
+fn one_refuses_all(good: &[u8], bad: &[u8]) {
+    for place in 0..16 {
+        let mut records = vec![good; 16];
+        assert_eq!(record(&records.concat(), place).answer, 0);
+        records[place] = bad;
+        for index in 0..17 {
+            assert_eq!(record(&records.concat(), index), refused(), "{bad:?}");
         }
     }
 }
@@ -119,10 +121,6 @@ fn one_label() {
 /// for [...] records (6)".
 #[test]
 fn last_label_of_digits() {
-    let refused = RecordView {
-        answer: 6,
-        ..RecordView::default()
-    };
     let digits = [b"a.".as_slice(), &[b'0'; 63]].concat();
     for (kind, service) in [(DNS, ""), (SRV, "7"), (URI, "m7"), (CN, "")] {
         let write = |domain: &[u8]| write(kind, service.as_bytes(), domain);
@@ -130,16 +128,9 @@ fn last_label_of_digits() {
             assert_eq!(record(&write(domain), 0).answer, 0, "{kind} {domain:?}");
         }
         for domain in [b"10.4.0.7".as_slice(), b"7", b"a.7", b"a.b.10", &digits] {
-            assert_eq!(record(&write(domain), 0), refused, "{kind} {domain:?}");
+            assert_eq!(record(&write(domain), 0), refused(), "{kind} {domain:?}");
         }
-        for place in 0..16 {
-            let mut records = vec![write(b"7.7b"); 16];
-            assert_eq!(record(&records.concat(), place).answer, 0);
-            records[place] = write(b"7b.7");
-            for index in 0..17 {
-                assert_eq!(record(&records.concat(), index), refused, "{kind} {place}");
-            }
-        }
+        one_refuses_all(&write(b"7.7b"), &write(b"7b.7"));
     }
 }
 
