@@ -196,6 +196,27 @@ struct beckethand_listed {
 struct beckethand_listed beckethand_list(struct beckethand_row *table, size_t lent, const uint8_t *bytes, size_t bytes_len,
                                          size_t which);
 
+/* THE VIEWER pages through one certificate string name by name, with no table. Its whole state is the string and a position, which the
+ * caller keeps: begin at BECKETHAND_OPENING_AT, also where the opening is refused, and hand each call the position that the last one
+ * gave. */
+#define BECKETHAND_OPENING_AT 0
+
+/* What a viewer shows from a position. shown is 1 with a row, whose kind, start, length and group are those of beckethand_row; it is 0
+ * at the end, and these four are 0. at is the position after: just past the row's element, or at the end the position that was
+ * handed. */
+struct beckethand_sight {
+    size_t shown, kind, start, length, group, at;
+};
+
+/* beckethand_opening answers 7 if the string is too long, else 3, 4 or 5 if it is unreadable, else 0; which is as for
+ * beckethand_list. An absent SAN, or absent constraints (length 0), opens with 0, at its end. */
+uint32_t beckethand_opening(const uint8_t *bytes, size_t bytes_len, size_t which);
+
+/* beckethand_view shows the first row of the string's listing that starts at or past the position, whatever number that is. If there
+ * is none, or the opening is refused, it is at the end. A row's group is a count from the start of the string, so each call reads and
+ * judges the string from there: the time to page through it grows with its length times its names. */
+struct beckethand_sight beckethand_view(const uint8_t *bytes, size_t bytes_len, size_t which, size_t at);
+
 #ifdef __cplusplus
 }
 #endif

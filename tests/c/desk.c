@@ -142,7 +142,56 @@ static bool same_row(struct beckethand_row a, struct beckethand_row b) {
     return a.kind == b.kind && a.start == b.start && a.length == b.length && a.group == b.group;
 }
 
-/* lists into a table that held other rows; the rows past those expected, or all on a refusal, must have stayed */
+/* ---- the viewer */
+
+/* a step that shows this row and stands just past it, or with no row is at the end and stays */
+static bool is_view(struct beckethand_sight v, const struct beckethand_row *row, size_t at) {
+    static const struct beckethand_row none = {0, 0, 0, 0};
+    struct beckethand_row shown = {v.kind, v.start, v.length, v.group};
+    return v.shown == (row ? 1 : 0) && same_row(shown, row ? *row : none) && v.at == (row ? row->start + row->length : at);
+}
+
+/* every view of a string shows the first of these rows that starts at or past the position */
+static void expect_views(const char *name, struct bytes b, size_t which, size_t count, const struct beckethand_row *rows) {
+    static const size_t far[] = {(size_t)1 << 16, (size_t)1 << 32, ((size_t)1 << 32) + 2, (size_t)1 << 63, SIZE_MAX};
+    size_t near = b.len + 3;
+    for (size_t k = 0; k < near + sizeof far / sizeof *far; k++) {
+        size_t at = k < near ? k : far[k - near], i = 0;
+        while (i < count && rows[i].start < at)
+            i++;
+        check(name, "a view", is_view(beckethand_view(b.at, b.len, which, at), i < count ? &rows[i] : NULL, at));
+    }
+}
+
+/* from an opening the steps show these rows, and then the end, twice more */
+static void expect_pages(const char *name, struct bytes b, size_t which, size_t count, const struct beckethand_row *rows) {
+    size_t at = BECKETHAND_OPENING_AT;
+    for (size_t i = 0; i < count + 3; i++) {
+        struct beckethand_sight v = beckethand_view(b.at, b.len, which, at);
+        check(name, "a page", is_view(v, i < count ? &rows[i] : NULL, at));
+        at = v.at;
+    }
+}
+
+/* the viewer agrees with what a listing with room says; at the end of a page too */
+static void expect_viewer(const char *name, struct bytes b, size_t which, size_t answer) {
+    struct beckethand_row rows[64];
+    struct beckethand_listed listed = beckethand_list(rows, 64, b.at, b.len, which);
+    struct bytes last = guarded(b);
+    cases++;
+    check(name, "more rows than the test has room for", listed.answer != BECKETHAND_TABLE_TOO_SHORT);
+    check(name, "the listing's answer", listed.answer == answer);
+    check(name, "the opening", beckethand_opening(b.at, b.len, which) == answer);
+    check(name, "the opening at the end of a page", beckethand_opening(last.at, last.len, which) == answer);
+    expect_views(name, b, which, listed.count, rows);
+    expect_pages(name, b, which, listed.count, rows);
+    expect_views(name, last, which, listed.count, rows);
+}
+
+/* ---- listings into a table */
+
+/* lists into a table that held other rows; the rows past those expected, or all on a refusal, must have stayed. The viewer shows the
+ * same rows */
 static void expect_list(const char *name, struct bytes b, size_t which, size_t lent, size_t answer, size_t count,
                         const struct beckethand_row *rows) {
     struct beckethand_row *table = malloc((lent ? lent : 1) * sizeof *table);
@@ -160,6 +209,7 @@ static void expect_list(const char *name, struct bytes b, size_t which, size_t l
     for (size_t i = 0; i < lent; i++)
         check(name, "a row", same_row(table[i], i < written ? rows[i] : old_row));
     free(table);
+    expect_viewer(name, b, which, answer == BECKETHAND_TABLE_TOO_SHORT ? BECKETHAND_ACCEPTED : answer);
 }
 
 /* ---- the cases */
@@ -501,6 +551,46 @@ static void kinds_of_rows(void) {
     expect_list("any number but 0 and 1 means constraints", both, SIZE_MAX, 1, BECKETHAND_TABLE_TOO_SHORT, 2, NULL);
 }
 
+/* one name in a string of so many bytes, behind these headers; the last header's length is filled in */
+static struct bytes one_long_name(size_t len, const char *tags) {
+    struct bytes b = zeros(len);
+    size_t at = 0;
+    memset(b.at, 'a', len);
+    for (const char *t = tags; *t; t += 2, at += 4) {
+        struct bytes tag = from_hex((char[]){t[0], t[1], 0});
+        size_t content = len - at - 4;
+        memcpy(b.at + at, (uint8_t[]){tag.at[0], 0x82, (uint8_t)(content >> 8), (uint8_t)content}, 4);
+    }
+    return b;
+}
+
+/* request 3/13 */
+static void viewer(void) {
+    const struct beckethand_row entries[] = {{2, 2, 5, 0}, {2, 7, 5, 1}};
+    const struct beckethand_row attributes[] = {{12, 4, 10, 0}, {10, 14, 12, 0}, {11, 28, 10, 1}};
+    const struct beckethand_row subtrees[] = {{9, 6, 18, 0}, {2, 28, 5, 1}, {9, 35, 17, 1}};
+    struct bytes san = from_hex("30 0A 82 03 61 2E 62 82 03 62 2E 63");
+    struct bytes subject = from_hex("30 24 31 16 30 08 06 03 55 04 0A 0C 01 6F 30 0A 06 03 55 04 03 0C 03 61 2E 62 31 0A 30 08 06 03"
+                                    " 55 04 03 1E 01 78");
+    struct bytes constraints = from_hex("30 32 A0 14 30 12 A0 10 " SRV_OID "A0 04 16 02 5F 6D A1 1A 30 05 82 03 61 2E 62 30 11 A0 0F "
+                                        SRV_OID "A0 03 16 01 62");
+    expect_list("two entries", san, BECKETHAND_LIST_SAN, 2, 0, 2, entries);
+    expect_list("three attributes", subject, BECKETHAND_LIST_SUBJECT, 3, 0, 3, attributes);
+    expect_list("three subtrees", constraints, BECKETHAND_LIST_CONSTRAINTS, 3, 0, 3, subtrees);
+    expect_viewer("three subtrees, by another number", constraints, SIZE_MAX, 0);
+    expect_viewer("a subject as a SAN", subject, BECKETHAND_LIST_SAN, BECKETHAND_SAN_UNREADABLE);
+    check("positions from 0 to 2", "the first row", is_view(beckethand_view(san.at, san.len, 0, 2), &entries[0], 2));
+    check("positions from 3 to 7", "the second row", is_view(beckethand_view(san.at, san.len, 0, 3), &entries[1], 3));
+    check("position 8", "the end, unmoved", is_view(beckethand_view(san.at, san.len, 0, 8), NULL, 8));
+    check("position 26", "a subtree's SEQUENCE", is_view(beckethand_view(constraints.at, constraints.len, 2, 26), &subtrees[1], 26));
+    check("position 26", "a set's header", is_view(beckethand_view(subject.at, subject.len, 1, 26), &attributes[2], 26));
+    expect_viewer("16,384 bytes", one_long_name(16384, "3082"), BECKETHAND_LIST_SAN, BECKETHAND_ACCEPTED);
+    expect_viewer("16,385 readable bytes", one_long_name(16385, "3082"), BECKETHAND_LIST_SAN, BECKETHAND_INPUT_TOO_LONG);
+    expect_viewer("constraints of 16,384", one_long_name(16384, "30A03082"), BECKETHAND_LIST_CONSTRAINTS, BECKETHAND_ACCEPTED);
+    expect_viewer("constraints of 16,385", one_long_name(16385, "30A03082"), BECKETHAND_LIST_CONSTRAINTS, BECKETHAND_INPUT_TOO_LONG);
+    expect_viewer("a subject of 4,097", zeros(4097), BECKETHAND_LIST_SUBJECT, BECKETHAND_INPUT_TOO_LONG);
+}
+
 int main(void) {
     desk_examples();
     old_faults();
@@ -515,6 +605,7 @@ int main(void) {
     addresses_of_services();
     listings();
     kinds_of_rows();
+    viewer();
     printf("C: %d cases, %d failures\n", cases, failures);
     return failures != 0;
 }

@@ -5,7 +5,8 @@ ghost use mathlib.Core.Path.{_≡_};
 ghost use lib.ListN.{length};
 ghost use Rattle.rules.specs.Numbers.{sanLimit};
 ghost use Rattle.rules.specs.Records.{shown};
-ghost use Rattle.reading.specs.Calls.{inputs, verdictOn, witnessPartOn, listingOn, tableOn};
+ghost use Rattle.rules.specs.Viewer.{viewNumbers};
+ghost use Rattle.reading.specs.Calls.{inputs, verdictOn, witnessPartOn, listingOn, tableOn, openingOn, viewOn};
 
 // A number that fits.
 fn narrow(n: usize) -> u32
@@ -160,4 +161,48 @@ pub extern "C" fn beckethand_list(
         × (now (table .exit) ≡ tableOn which (now (bytes .entry)) (now (table .entry))) ⌝ }
 {
     listing::list(table, bytes, which)
+}
+
+// How a viewer of such a string opens: 0, or why it is refused.
+#[no_mangle]
+pub extern "C" fn beckethand_opening(bytes: &[u8], which: usize) -> u32
+    ensures { λ r. ⌜ r ≡ openingOn which (now (bytes .entry)) ⌝ }
+{
+    let answer = viewer::opening(bytes, which);
+    narrow(answer)
+}
+
+// A step's numbers: the row or zeros, and the position after it.
+fn numbers_of(v: rules::View) -> rules::ViewNumbers
+    ensures { λ r. ⌜ r ≡ viewNumbers v ⌝ }
+{
+    let at = v.at;
+    let sight = v.sight;
+    let rules::Sight::Name(row) = sight else {
+        return rules::ViewNumbers {
+            shown: 0,
+            kind: 0,
+            start: 0,
+            length: 0,
+            group: 0,
+            at: at,
+        };
+    };
+    rules::ViewNumbers {
+        shown: 1,
+        kind: row.kind,
+        start: row.start,
+        length: row.length,
+        group: row.group,
+        at: at,
+    }
+}
+
+// What a viewer shows from a position, and its position after that.
+#[no_mangle]
+pub extern "C" fn beckethand_view(bytes: &[u8], which: usize, at: usize) -> rules::ViewNumbers
+    ensures { λ r. ⌜ r ≡ viewNumbers (viewOn which (now (bytes .entry)) at) ⌝ }
+{
+    let v = viewer::viewed(bytes, which, at);
+    numbers_of(v)
 }

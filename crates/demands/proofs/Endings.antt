@@ -17,7 +17,7 @@ use Rattle.rules.specs.Verdict.{isLong, isUnreadable, judged, outcomeOf, number
 use Rattle.reading.specs.Views.{seenSan, seenSubject, seenConstraints}
 use Rattle.reading.specs.Calls.{Inputs, outcomeOn, verdictOn}
 use Rattle.demands.specs.Statements.{TooLong, RecordsUnreadable, Unreadable, Names, Read}
-use Rattle.demands.proofs.Looked.{seen-long, seen-listed, seen-fits, read-or-not, unread, not-unread, same-list, one-list, records-long, records-bad, records-good, san-sight, subject-sight, constraints-sight}
+use Rattle.demands.proofs.Looked.{seen-long, seen-listed, seen-fits, read-or-not, unread, not-unread, same-list, one-list, records-long, records-bad, records-good, san-faithful, subject-faithful, constraints-faithful}
 
 -- ---- by what is seen
 
@@ -90,9 +90,9 @@ module _ (s : Inputs) where
     where
       go : TooLong s → (isLong (seenRecords (s .references)) ≡ true) ⊎ (isLong (seenSan (s .san)) ≡ true) ⊎ (isLong (seenSubject (s .subject)) ≡ true) ⊎ (isLong (seenConstraints (s .constraints)) ≡ true)
       go (inl t) = inl (rw (records-long (s .references) t))
-      go (inr (inl t)) = inr (inl (rw (seen-long san-sight (s .san) t)))
-      go (inr (inr (inl t))) = inr (inr (inl (rw (seen-long subject-sight (s .subject) t))))
-      go (inr (inr (inr t))) = inr (inr (inr (rw (seen-long constraints-sight (s .constraints) t))))
+      go (inr (inl t)) = inr (inl (rw (seen-long san-faithful (s .san) t)))
+      go (inr (inr (inl t))) = inr (inr (inl (rw (seen-long subject-faithful (s .subject) t))))
+      go (inr (inr (inr t))) = inr (inr (inr (rw (seen-long constraints-faithful (s .constraints) t))))
 
   long-or-fits : TooLong s ⊎ Fits s
   long-or-fits = go (decLt _ _) (decLt _ _) (decLt _ _) (decLt _ _)
@@ -108,7 +108,7 @@ module _ (s : Inputs) where
     -- within the limits no string is seen as too long
     none-long : (isLong (seenRecords (s .references)) || isLong (seenSan (s .san)) || isLong (seenSubject (s .subject)) || isLong (seenConstraints (s .constraints))) ≡ false
     none-long =
-        rw (seen-fits san-sight (s .san) (f .san), seen-fits subject-sight (s .subject) (f .subject), seen-fits constraints-sight (s .constraints) (f .constraints)) (go (goodRecords (s .references)) refl)
+        rw (seen-fits san-faithful (s .san) (f .san), seen-fits subject-faithful (s .subject) (f .subject), seen-fits constraints-faithful (s .constraints) (f .constraints)) (go (goodRecords (s .references)) refl)
       where
         go : (t : Bool) → goodRecords (s .references) ≡ t → (isLong (seenRecords (s .references)) || false || false || false) ≡ false
         go true e = rw (records-good (s .references) (f .references) e)
@@ -117,7 +117,7 @@ module _ (s : Inputs) where
     -- records that are good, and what is left to judge
     past-records : goodRecords (s .references) ≡ true → Ending s
     unfolding verdictOn outcomeOn
-    past-records e = go (read-or-not san-sight (s .san) (f .san)) (read-or-not subject-sight (s .subject) (f .subject)) (read-or-not constraints-sight (s .constraints) (f .constraints))
+    past-records e = go (read-or-not san-faithful (s .san) (f .san)) (read-or-not subject-faithful (s .subject) (f .subject)) (read-or-not constraints-faithful (s .constraints) (f .constraints))
       where
         a : isUnreadable (seenRecords (s .references)) ≡ false
         a = rw (records-good (s .references) (f .references) e)
@@ -130,9 +130,9 @@ module _ (s : Inputs) where
             → Unreadable subjectInput (s .subject) ⊎ ((l : List (Member Attribute)) × Reads subjectInput (s .subject) l)
             → Unreadable constraintsInput (s .constraints) ⊎ ((l : List (Member GeneralName)) × Reads constraintsInput (s .constraints) l)
             → Ending s
-        go (inl b) U C = san f here b (three _ _ _ _ none-long a (unread san-sight (s .san) (f .san) b))
-        go (inr b) (inl c) C = subject f here (λ h. h (b .0) (b .1)) c (four _ _ _ _ none-long a (not-unread san-sight (s .san) (f .san) b) (unread subject-sight (s .subject) (f .subject) c))
-        go (inr b) (inr c) (inl d) = constraints f here (λ h. h (b .0) (b .1)) (λ h. h (c .0) (c .1)) d (five _ _ _ _ none-long a (not-unread san-sight (s .san) (f .san) b) (not-unread subject-sight (s .subject) (f .subject) c) (unread constraints-sight (s .constraints) (f .constraints) d))
+        go (inl b) U C = san f here b (three _ _ _ _ none-long a (unread san-faithful (s .san) (f .san) b))
+        go (inr b) (inl c) C = subject f here (λ h. h (b .0) (b .1)) c (four _ _ _ _ none-long a (not-unread san-faithful (s .san) (f .san) b) (unread subject-faithful (s .subject) (f .subject) c))
+        go (inr b) (inr c) (inl d) = constraints f here (λ h. h (b .0) (b .1)) (λ h. h (c .0) (c .1)) d (five _ _ _ _ none-long a (not-unread san-faithful (s .san) (f .san) b) (not-unread subject-faithful (s .subject) (f .subject) c) (unread constraints-faithful (s .constraints) (f .constraints) d))
         go (inr b) (inr c) (inr d) =
             read (record { references = referencesOf (s .references); san = b .0; subject = c .0; constraints = d .0 })
             (record {
@@ -162,7 +162,7 @@ module _ (s : Inputs) (l : Names) (r : Read s l) where
   pub outcome-of-names : outcomeOn s ≡ judged (l .references) (l .san) (l .subject) (l .constraints)
   unfolding outcomeOn outcomeOf
   outcome-of-names =
-      rw (r .references-are, seen-listed san-sight (s .san) (l .san) (r .san-is), seen-listed subject-sight (s .subject) (l .subject) (r .subject-is), seen-listed constraints-sight (s .constraints) (l .constraints) (r .constraints-are))
+      rw (r .references-are, seen-listed san-faithful (s .san) (l .san) (r .san-is), seen-listed subject-faithful (s .subject) (l .subject) (r .subject-is), seen-listed constraints-faithful (s .constraints) (l .constraints) (r .constraints-are))
 
   -- and none of the refusals' conditions holds
   pub read-fits : Fits s
@@ -189,7 +189,7 @@ module _ (s : Inputs) (l : Names) (r : Read s l) where
 pub read-unique : (s : Inputs) (l m : Names) → Read s l → Read s m → l ≡ m
 read-unique s l m r q =
     let a : l .references ≡ m .references = same-list (r .references-are) (q .references-are) in
-    let b : l .san ≡ m .san = one-list san-sight (s .san) (l .san) (m .san) (r .san-is) (q .san-is) in
-    let c : l .subject ≡ m .subject = one-list subject-sight (s .subject) (l .subject) (m .subject) (r .subject-is) (q .subject-is) in
-    let d : l .constraints ≡ m .constraints = one-list constraints-sight (s .constraints) (l .constraints) (m .constraints) (r .constraints-are) (q .constraints-are) in
+    let b : l .san ≡ m .san = one-list san-faithful (s .san) (l .san) (m .san) (r .san-is) (q .san-is) in
+    let c : l .subject ≡ m .subject = one-list subject-faithful (s .subject) (l .subject) (m .subject) (r .subject-is) (q .subject-is) in
+    let d : l .constraints ≡ m .constraints = one-list constraints-faithful (s .constraints) (l .constraints) (m .constraints) (r .constraints-are) (q .constraints-are) in
     λ k. record { references = a k; san = b k; subject = c k; constraints = d k }

@@ -10,4 +10,6 @@ pub mod Places
 pub mod Witness
 pub mod Records
 pub mod Demands
+pub mod Paging
+pub mod Viewings
 pub mod Unreadable

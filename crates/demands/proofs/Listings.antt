@@ -21,25 +21,25 @@ use Rattle.reading.specs.Calls.{refusalOf, seenRows, listingOn, tableOn}
 use Rattle.demands.specs.Statements.{Unreadable, CertificateString, stringOf, listingAnswers, Listings, OneReading}
 use Rattle.demands.proofs.Order.{Chosen, each-exactly}
 use Rattle.demands.proofs.Places.{Rows, san-rows, subject-rows, constraints-rows}
-use Rattle.demands.proofs.Looked.{Sight, san-sight, subject-sight, constraints-sight, seen-long, seen-bad, seen-listed, one-list, read-or-not}
+use Rattle.demands.proofs.Looked.{Faithful, san-faithful, subject-faithful, constraints-faithful, seen-long, seen-bad, seen-listed, one-list, read-or-not}
 
 -- what the listing of a number judges, and the laws of that string's reading
-record Lists (which : ℕ) (C : CertificateString) : Type 0 where
-  seen : List ℕ → Seen (C .Name)
-  sight : Sight (C .input) seen
-  refusal-is : refusalOf which ≡ C .refusal
-  rows-are : (b : List ℕ) → seenRows which b ≡ rowsSeen (C .input .grammar) (seen b)
-  low : 0 < C .refusal
-  high : C .refusal < 7
-  one-each : (l : List (C .Name)) → length (C .input .grammar .rows l) ≡ length l
-  only : (l l′ : List (C .Name)) (b : List ℕ) → Writes (C .input .grammar) l b → Writes (C .input .grammar) l′ b → l ≡ l′
-  each-row : Rows C
+pub record Lists (which : ℕ) (C : CertificateString) : Type 0 where
+  pub seen : List ℕ → Seen (C .Name)
+  pub faithful : Faithful (C .input) seen
+  pub refusal-is : refusalOf which ≡ C .refusal
+  pub rows-are : (b : List ℕ) → seenRows which b ≡ rowsSeen (C .input .grammar) (seen b)
+  pub low : 0 < C .refusal
+  pub high : C .refusal < 7
+  pub one-each : (l : List (C .Name)) → length (C .input .grammar .rows l) ≡ length l
+  pub only : (l l′ : List (C .Name)) (b : List ℕ) → Writes (C .input .grammar) l b → Writes (C .input .grammar) l′ b → l ≡ l′
+  pub each-row : Rows C
 
-lists : (which : ℕ) → Lists which (stringOf which)
+pub lists : (which : ℕ) → Lists which (stringOf which)
 unfolding refusalOf seenRows
 lists zero = record {
   seen = seenSan;
-  sight = san-sight;
+  faithful = san-faithful;
   refusal-is = refl;
   rows-are = λ b. refl;
   low = omega arith;
@@ -50,7 +50,7 @@ lists zero = record {
 }
 lists (suc zero) = record {
   seen = seenSubject;
-  sight = subject-sight;
+  faithful = subject-faithful;
   refusal-is = refl;
   rows-are = λ b. refl;
   low = omega arith;
@@ -64,7 +64,7 @@ lists (suc (suc n)) =
     let f = ne-eqb (suc (suc n)) 1 (λ q. omega arith) in
     record {
       seen = seenConstraints;
-      sight = constraints-sight;
+      faithful = constraints-faithful;
       refusal-is = rw (e, f);
       rows-are = λ b. rw (e, f);
       low = omega arith;
@@ -90,13 +90,18 @@ data Listing (which : ℕ) (C : CertificateString) (b : List ℕ) (lent : ℕ) :
       → ((table : List Row) → length table ≡ lent → tableOn which b table ≡ C .input .grammar .rows l ++ drop (length l) table) → Listing which C b lent
 
 module _ (which : ℕ) (C : CertificateString) (L : Lists which C) where
+  -- a string that has a list is seen with its rows
+  pub seen-rows : (b : List ℕ) (l : List (C .Name)) → Sees (C .input) b (listed l) → seenRows which b ≡ listed (C .input .grammar .rows l)
+  unfolding rowsSeen
+  seen-rows b l s = L .rows-are b ∙ ap (rowsSeen (C .input .grammar)) (seen-listed (L .faithful) b l s)
+
   -- a string that is read: the table is too short, or takes all rows
   list-read : (b : List ℕ) (lent : ℕ) → length b ≤ C .input .limit → (l : List (C .Name)) → Reads (C .input) b l → Listing which C b lent
   unfolding listingOn tableOn rowsSeen listedOf tableAfter
   list-read b lent fits l r = go (ltb lent (length l)) refl
     where
       e : seenRows which b ≡ listed (C .input .grammar .rows l)
-      e = L .rows-are b ∙ ap (rowsSeen (C .input .grammar)) (seen-listed (L .sight) b l (fits, r))
+      e = seen-rows b l (fits, r)
 
       go : (t : Bool) → ltb lent (length l) ≡ t → Listing which C b lent
       go true f = short fits l r (ltb-true _ _ f) (rw (e, L .one-each l, f)) (λ table q. rw (e, L .one-each l, q, f))
@@ -108,17 +113,17 @@ module _ (which : ℕ) (C : CertificateString) (L : Lists which C) where
   list-string b lent = go (decLt (C .input .limit) (length b))
     where
       within : length b ≤ C .input .limit → Unreadable (C .input) b ⊎ ((l : List (C .Name)) × Reads (C .input) b l) → Listing which C b lent
-      within fits (inl u) = bad fits u (rw (L .rows-are b, L .refusal-is, seen-bad (L .sight) b fits u)) (λ table. rw (L .rows-are b, seen-bad (L .sight) b fits u))
+      within fits (inl u) = bad fits u (rw (L .rows-are b, L .refusal-is, seen-bad (L .faithful) b fits u)) (λ table. rw (L .rows-are b, seen-bad (L .faithful) b fits u))
       within fits (inr r) = list-read b lent fits (r .0) (r .1)
 
       go : Dec (C .input .limit < length b) → Listing which C b lent
-      go (yes h) = long h (rw (L .rows-are b, seen-long (L .sight) b h)) (λ table. rw (L .rows-are b, seen-long (L .sight) b h))
-      go (no h) = within (omega arith) (read-or-not (L .sight) b (omega arith))
+      go (yes h) = long h (rw (L .rows-are b, seen-long (L .faithful) b h)) (λ table. rw (L .rows-are b, seen-long (L .faithful) b h))
+      go (no h) = within (omega arith) (read-or-not (L .faithful) b (omega arith))
 
   module _ (b : List ℕ) where
     -- another list of the same string has the same length
     same-length : length b ≤ C .input .limit → (l m : List (C .Name)) → Reads (C .input) b l → Reads (C .input) b m → length l ≡ length m
-    same-length fits l m r q = ap length (one-list (L .sight) b l m (fits, r) (fits, q))
+    same-length fits l m r q = ap length (one-list (L .faithful) b l m (fits, r) (fits, q))
 
     -- the row of the table of answers that is given
     chosen : (lent : ℕ) → Listing which C b lent → Chosen (listingAnswers C b lent) (listingOn which b lent .answer)
@@ -199,7 +204,7 @@ module _ (which : ℕ) (C : CertificateString) (L : Lists which C) where
     same-rows = λ b table table′ e f.
         let p = shows b table e in
         let q = shows b table′ f in
-        p .2 ∙ ap (λ x. C .input .grammar .rows x) (one-list (L .sight) b (p .0) (q .0) (p .1) (q .1)) ∙ sym (q .2);
+        p .2 ∙ ap (λ x. C .input .grammar .rows x) (one-list (L .faithful) b (p .0) (q .0) (p .1) (q .1)) ∙ sym (q .2);
     rows-stay = λ b table. rows-stay b table (list-string b (length table));
     size-stays = λ b table. size-stays b table (list-string b (length table));
   }
@@ -239,7 +244,7 @@ module _ (which : ℕ) (C : CertificateString) (L : Lists which C) where
       go (bad f u e t) = absurd (u list (s .1))
       go (short f l r h e t) = let z = same-length b f l list r (s .1) in absurd (omega arith)
       go (all f l r h e t) =
-          let q : l ≡ list = one-list (L .sight) b l list (f, r) s in
+          let q : l ≡ list = one-list (L .faithful) b l list (f, r) s in
           rw (t table refl) (take-at (C .input .grammar .rows l) (drop (length l) table) (length list) (L .one-each l ∙ ap length q) ∙ ap (λ x. C .input .grammar .rows x) q)
 
   -- and its part of demand 3
@@ -252,7 +257,7 @@ module _ (which : ℕ) (C : CertificateString) (L : Lists which C) where
     rows = rows-of;
     one-each = L .one-each;
     row-of = L .each-row;
-    one-seen = λ b. (L .seen b, L .sight .sees b, L .sight .only b);
+    one-seen = λ b. (L .seen b, L .faithful .sees b, L .faithful .only b);
   }
 
 -- of every number

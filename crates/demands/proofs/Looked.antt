@@ -15,25 +15,25 @@ use Rattle.reading.specs.Views.{seenSan, seenSubject, seenConstraints, sees-san
 use Rattle.demands.specs.Statements.{Unreadable}
 
 -- what a function sees of each string is what the grammar says, and nothing else is
-pub record Sight {Name : Type 0} (I : Input Name) (seen : List ℕ → Seen Name) : Type 0 where
+pub record Faithful {Name : Type 0} (I : Input Name) (seen : List ℕ → Seen Name) : Type 0 where
   pub sees : (b : List ℕ) → Sees I b (seen b)
   pub only : (b : List ℕ) (x : Seen Name) → Sees I b x → x ≡ seen b
 
 -- the three strings
-pub san-sight : Sight sanInput seenSan
-san-sight = record { sees = sees-san; only = san-seen }
+pub san-faithful : Faithful sanInput seenSan
+san-faithful = record { sees = sees-san; only = san-seen }
 
-pub subject-sight : Sight subjectInput seenSubject
-subject-sight = record { sees = sees-subject; only = subject-seen }
+pub subject-faithful : Faithful subjectInput seenSubject
+subject-faithful = record { sees = sees-subject; only = subject-seen }
 
-pub constraints-sight : Sight constraintsInput seenConstraints
-constraints-sight = record { sees = sees-constraints; only = constraints-seen }
+pub constraints-faithful : Faithful constraintsInput seenConstraints
+constraints-faithful = record { sees = sees-constraints; only = constraints-seen }
 
 -- one thing seen is one list
 pub same-list : {Name : Type 0} {x : Seen Name} {l m : List Name} → x ≡ listed l → x ≡ listed m → l ≡ m
 same-list e f = cc
 
-module _ {Name : Type 0} {I : Input Name} {seen : List ℕ → Seen Name} (S : Sight I seen) (b : List ℕ) where
+module _ {Name : Type 0} {I : Input Name} {seen : List ℕ → Seen Name} (S : Faithful I seen) (b : List ℕ) where
   -- what is seen, from the condition on the bytes
   pub seen-long : I .limit < length b → seen b ≡ tooLong
   seen-long h = sym (S .only b tooLong h)

@@ -13,7 +13,7 @@ use Rattle.rules.specs.Bytes.{some?}
 use Rattle.rules.specs.Der.{element, header}
 use Rattle.reading.specs.Reader.{then, isSome, got, thenF, Raw, raw, writeRaw, readElement, tagged, alone, items}
 use Rattle.reading.specs.Answers.{no-some, some-of, then-some, when-some, at-end-some}
-use Rattle.reading.specs.Element.{element-sound, element-complete}
+use Rattle.reading.specs.Element.{element-length, element-sound, element-complete}
 use Rattle.reading.specs.Codec.{Codec}
 use Rattle.reading.specs.Runs.{items-end, items-open, items-next}
 use Rattle.reading.specs.Strings.{readName, readSan}
@@ -119,10 +119,6 @@ module _ {A : Type 0} (f : Raw → Option A) (s : List ℕ) (at end : ℕ) (run 
   with-first k = found-some (elementAt s at end) run-found λ t b n found. k t b n (first _ refl t b n found)
 
 -- ---- parts as they are written
-
-pub element-length : (t : ℕ) (c : List ℕ) → length (element t c) ≡ header c + length c
-unfolding element header
-element-length t c = simp length-append (omega arith)
 
 -- the element x stands at `at`, its content from `start` to `next`
 pub record Stands (s : List ℕ) (at end : ℕ) (x : Raw) (start next : ℕ) : Type 0 where

@@ -1,5 +1,5 @@
 -- What each function of the crate returns, by its own tests.
-use Rattle.listing.proofs.Planning.{limit-san, limit-subject, limit-constraints, refusal-san, refusal-subject, refusal-constraints, first-entry, first-attribute, first-subtree, entry-step, attribute-step, subtree-step, san-absent, san-counted, subject-counted, constraints-absent, constraints-counted, refused-is, plan-long, plan-unreadable, plan-short, plan-rows}
+use Rattle.listing.proofs.Planning.{limit-san, limit-subject, limit-constraints, refusal-san, refusal-subject, refusal-constraints, first-entry, first-attribute, first-subtree, entry-step, attribute-step, subtree-step, san-absent, san-counted, subject-counted, constraints-absent, constraints-counted, refused-is, open-long, open-unreadable, open-rows, plan-short, plan-whole}
 
 pub ruleset laws = (
   limit-san,
@@ -20,8 +20,9 @@ pub ruleset laws = (
   constraints-absent,
   constraints-counted,
   refused-is,
-  plan-long,
-  plan-unreadable,
+  open-long,
+  open-unreadable,
+  open-rows,
   plan-short,
-  plan-rows,
+  plan-whole,
 )

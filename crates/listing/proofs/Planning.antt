@@ -24,7 +24,7 @@ use Rattle.steps.specs.declared.Cursor.{Cursor}
 use Rattle.steps.specs.declared.Step.{Step}
 use Rattle.listing.specs.declared.Plan.{Plan}
 use Rattle.listing.specs.Steps.{firstOf, stepOf}
-use Rattle.listing.specs.Plans.{limitOf, namesOf, countOf, plan, refused, planFor, planOf}
+use Rattle.listing.specs.Plans.{limitOf, namesOf, countOf, plan, refused, openedFor, openedOf, planFor, planOf}
 
 -- ---- by the number of the string
 
@@ -159,47 +159,46 @@ module _ (which : ℕ) (s : List ℕ) where
       go false true e f = rw (e, f) (string-counted subjectInput readSubject subject-reading s (rw (e, f) at h))
       go false false e f = rw (e, f) (string-counted constraintsInput readConstraints constraints-reading s (rw (e, f) at h))
 
--- ---- the plan
+-- ---- the plan for a table with room
 
 pub refused-is : (answer count : ℕ) → plan answer count 0 (cursor 0 0 0) ≡ refused answer count
 unfolding refused
 refused-is answer count = refl
 
-module _ (which : ℕ) (s : List ℕ) (lent : ℕ) where
-  module _ (limit : ℕ) (limit-is : limit ≡ limitOf which) where
-    pub plan-long : limit < length s → (p : Plan) → p ≡ refused 7 0 → p ≡ planOf which s lent
-    unfolding planOf planFor
-    plan-long h p p-is = p-is ∙ rw (seen-long which s (rw limit-is at h))
+module _ (which : ℕ) (s : List ℕ) (limit : ℕ) (limit-is : limit ≡ limitOf which) where
+  pub open-long : limit < length s → (p : Plan) → p ≡ refused 7 0 → p ≡ openedOf which s
+  unfolding openedOf openedFor
+  open-long h p p-is = p-is ∙ rw (seen-long which s (rw limit-is at h))
 
-    module _ (h : length s ≤ limit) (c : Count) (c-is : c ≡ countOf which s) where
-      counted : Counted (seenRows which s) c
-      counted = rw c-is (seen-counted which s (rw limit-is at h))
+  module _ (h : length s ≤ limit) (c : Count) (c-is : c ≡ countOf which s) where
+    counted : Counted (seenRows which s) c
+    counted = rw c-is (seen-counted which s (rw limit-is at h))
 
-      pub plan-unreadable : c ≡ Unreadable → (answer : ℕ) → answer ≡ refusalOf which → (p : Plan) → p ≡ refused answer 0 → p ≡ planOf which s lent
-      unfolding planOf planFor
-      plan-unreadable e answer answer-is p p-is = p-is ∙ go (seenRows which s) c counted e
-        where
-          go : (x : Seen Row) (c : Count) → Counted x c → c ≡ Unreadable → refused answer 0 ≡ planFor (refusalOf which) x lent (firstOf which s)
-          go _ _ no-list e = rw answer-is
-          go _ _ (rows-of rows) e = let z : _≡_ {A = ℕ} 0 1 = cc in absurd (omega arith)
+    pub open-unreadable : c ≡ Unreadable → (answer : ℕ) → answer ≡ refusalOf which → (p : Plan) → p ≡ refused answer 0 → p ≡ openedOf which s
+    unfolding openedOf openedFor
+    open-unreadable e answer answer-is p p-is = p-is ∙ go (seenRows which s) c counted e
+      where
+        go : (x : Seen Row) (c : Count) → Counted x c → c ≡ Unreadable → refused answer 0 ≡ openedFor (refusalOf which) x (firstOf which s)
+        go _ _ no-list e = rw answer-is
+        go _ _ (rows-of rows) e = let z : _≡_ {A = ℕ} 0 1 = cc in absurd (omega arith)
 
-      module _ (k : ℕ) (e : c ≡ Of k) where
-        pub plan-short : lent < k → (p : Plan) → p ≡ refused 8 k → p ≡ planOf which s lent
-        unfolding planOf planFor
-        plan-short l p p-is = p-is ∙ go (seenRows which s) c counted e
-          where
-            go : (x : Seen Row) (c : Count) → Counted x c → c ≡ Of k → refused 8 k ≡ planFor (refusalOf which) x lent (firstOf which s)
-            go _ _ no-list e = let z : _≡_ {A = ℕ} 0 1 = cc in absurd (omega arith)
-            go _ _ (rows-of rows) e =
-                let i : length rows ≡ k = cc in
-                rw (i, lt-ltb lent k l)
+    pub open-rows : (k : ℕ) → c ≡ Of k → (f : Cursor) → f ≡ firstOf which s → plan 0 k k f ≡ openedOf which s
+    unfolding openedOf openedFor
+    open-rows k e f f-is = rw f-is (go (seenRows which s) c counted e)
+      where
+        go : (x : Seen Row) (c : Count) → Counted x c → c ≡ Of k → plan 0 k k (firstOf which s) ≡ openedFor (refusalOf which) x (firstOf which s)
+        go _ _ no-list e = let z : _≡_ {A = ℕ} 0 1 = cc in absurd (omega arith)
+        go _ _ (rows-of rows) e =
+            let i : length rows ≡ k = cc in
+            rw i
 
-        pub plan-rows : k ≤ lent → (f : Cursor) → f ≡ firstOf which s → plan 0 k k f ≡ planOf which s lent
-        unfolding planOf planFor
-        plan-rows l f f-is = rw f-is (go (seenRows which s) c counted e)
-          where
-            go : (x : Seen Row) (c : Count) → Counted x c → c ≡ Of k → plan 0 k k (firstOf which s) ≡ planFor (refusalOf which) x lent (firstOf which s)
-            go _ _ no-list e = let z : _≡_ {A = ℕ} 0 1 = cc in absurd (omega arith)
-            go _ _ (rows-of rows) e =
-                let i : length rows ≡ k = cc in
-                rw (i, le-ltb lent k l)
+-- ---- and for the table that is lent
+
+module _ (which : ℕ) (s : List ℕ) (lent : ℕ) (o : Plan) (o-is : o ≡ openedOf which s) where
+  pub plan-short : lent < o .rows → (p : Plan) → p ≡ refused 8 (o .rows) → p ≡ planOf which s lent
+  unfolding planOf planFor
+  plan-short h p p-is = p-is ∙ rw (← o-is, lt-ltb lent (o .rows) h)
+
+  pub plan-whole : o .rows ≤ lent → o ≡ planOf which s lent
+  unfolding planOf planFor
+  plan-whole h = rw (← o-is, le-ltb lent (o .rows) h)

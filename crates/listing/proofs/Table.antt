@@ -7,7 +7,7 @@ use mathlib.Core.List.{List, [], _∷_, _++_}
 use native.Mathlib.Omega.{arith}
 use lib.Dec.{ltb, eqb}
 use lib.ListN.{length, drop}
-use borrow.Author.Tests.{ltb-false, eqb-true}
+use borrow.Author.Tests.{ltb-false, le-ltb}
 use Rattle.rules.specs.San.{sanGrammar}
 use Rattle.rules.specs.Subject.{subjectGrammar}
 use Rattle.rules.specs.Constraints.{constraintsGrammar}
@@ -21,7 +21,8 @@ use Rattle.reading.specs.Calls.{refusalOf, seenRows, listingOn, tableOn}
 use Rattle.steps.specs.Walks.{rowsBy, walk-rows, san-walk}
 use Rattle.steps.specs.GroupWalks.{subject-walk, constraints-walk}
 use Rattle.listing.specs.Steps.{stepOf, firstOf}
-use Rattle.listing.specs.Plans.{refused, planFor, planOf}
+use Rattle.listing.specs.declared.Plan.{Plan}
+use Rattle.listing.specs.Plans.{refused, openedFor, openedOf, planFor, planOf}
 use Rattle.listing.proofs.Fill.{filled}
 
 no-rows : {A : Type 0} (l : List A) → length l ≡ 0 → l ≡ []
@@ -46,7 +47,7 @@ module _ {Name : Type 0} (I : Input Name) (read : List ℕ → Option (List Name
           let k : I .grammar .rows l ≡ rows = cc in
           rw (← k, R .count l) (reads l f)
 
-all-shown : (which : ℕ) (s : List ℕ) {rows : List Row} → seenRows which s ≡ listed rows → rowsBy (stepOf which s) (length rows) (firstOf which s) ≡ rows
+pub all-shown : (which : ℕ) (s : List ℕ) {rows : List Row} → seenRows which s ≡ listed rows → rowsBy (stepOf which s) (length rows) (firstOf which s) ≡ rows
 unfolding seenRows seenSan seenSubject seenConstraints firstOf stepOf
 all-shown which s {rows} e = go (eqb which 0) (eqb which 1) refl refl
   where
@@ -65,47 +66,46 @@ all-shown which s {rows} e = go (eqb which 0) (eqb which 1) refl refl
 -- no more rows are written than are lent
 pub rows-fit : (which : ℕ) (s : List ℕ) (lent : ℕ) → planOf which s lent .rows ≤ lent
 unfolding planOf planFor refused
-rows-fit which s lent = go (seenRows which s)
+rows-fit which s lent = go (openedOf which s)
   where
-    tell : (t : Bool) (rows : List Row) → ltb lent (length rows) ≡ t → planFor (refusalOf which) (listed rows) lent (firstOf which s) .rows ≤ lent
-    tell true rows e = rw e zero-le
-    tell false rows e = rw e (ltb-false _ _ e)
+    tell : (t : Bool) (p : Plan) → ltb lent (p .rows) ≡ t → planFor lent p .rows ≤ lent
+    tell true p e = rw e zero-le
+    tell false p e = rw e (ltb-false _ _ e)
 
-    go : (x : Seen Row) → planFor (refusalOf which) x lent (firstOf which s) .rows ≤ lent
-    go tooLong = zero-le
-    go unreadable = zero-le
-    go (listed rows) = tell (ltb lent (length rows)) rows refl
+    go : (p : Plan) → planFor lent p .rows ≤ lent
+    go p = tell (ltb lent (p .rows)) p refl
 
 -- "The answer is 0 and the count; or 7, .."
 pub listed-is : (which : ℕ) (s : List ℕ) (lent : ℕ) → planOf which s lent .listed ≡ listingOn which s lent
-unfolding listingOn planOf planFor refused listedOf
+unfolding listingOn planOf planFor openedOf openedFor refused listedOf
 listed-is which s lent = go (seenRows which s)
   where
-    tell : (t : Bool) (rows : List Row) → ltb lent (length rows) ≡ t → planFor (refusalOf which) (listed rows) lent (firstOf which s) .listed ≡ listedOf (refusalOf which) (listed rows) lent
+    tell : (t : Bool) (rows : List Row) → ltb lent (length rows) ≡ t
+        → planFor lent (openedFor (refusalOf which) (listed rows) (firstOf which s)) .listed ≡ listedOf (refusalOf which) (listed rows) lent
     tell true rows e = rw e
     tell false rows e = rw e
 
-    go : (x : Seen Row) → planFor (refusalOf which) x lent (firstOf which s) .listed ≡ listedOf (refusalOf which) x lent
-    go tooLong = refl
-    go unreadable = refl
+    go : (x : Seen Row) → planFor lent (openedFor (refusalOf which) x (firstOf which s)) .listed ≡ listedOf (refusalOf which) x lent
+    go tooLong = rw (le-ltb lent 0 zero-le)
+    go unreadable = rw (le-ltb lent 0 zero-le)
     go (listed rows) = tell (ltb lent (length rows)) rows refl
 
 -- "Rows past the count, and all rows after a refusal, stay."
 pub table-is : (which : ℕ) (s : List ℕ) (table : List Row)
     → filled (stepOf which s) (planOf which s (length table) .rows) (planOf which s (length table) .first) table
     ≡ tableOn which s table
-unfolding tableOn planOf planFor refused tableAfter rowsBy
+unfolding tableOn planOf planFor openedOf openedFor refused tableAfter rowsBy
 table-is which s table = go (seenRows which s) refl
   where
+    abbrev planned : Seen Row → Plan
+    planned x = planFor (length table) (openedFor (refusalOf which) x (firstOf which s))
+
     tell : (t : Bool) (rows : List Row) → ltb (length table) (length rows) ≡ t → seenRows which s ≡ listed rows
-        → filled (stepOf which s) (planFor (refusalOf which) (listed rows) (length table) (firstOf which s) .rows) (planFor (refusalOf which) (listed rows) (length table) (firstOf which s) .first) table
-        ≡ tableAfter (listed rows) table
+        → filled (stepOf which s) (planned (listed rows) .rows) (planned (listed rows) .first) table ≡ tableAfter (listed rows) table
     tell true rows e f = rw e
     tell false rows e f = rw e (ap (λ (r : List Row). r ++ drop (length rows) table) (all-shown which s f))
 
-    go : (x : Seen Row) → seenRows which s ≡ x
-        → filled (stepOf which s) (planFor (refusalOf which) x (length table) (firstOf which s) .rows) (planFor (refusalOf which) x (length table) (firstOf which s) .first) table
-        ≡ tableAfter x table
-    go tooLong f = refl
-    go unreadable f = refl
+    go : (x : Seen Row) → seenRows which s ≡ x → filled (stepOf which s) (planned x .rows) (planned x .first) table ≡ tableAfter x table
+    go tooLong f = rw (le-ltb (length table) 0 zero-le)
+    go unreadable f = rw (le-ltb (length table) 0 zero-le)
     go (listed rows) f = tell (ltb (length table) (length rows)) rows refl f

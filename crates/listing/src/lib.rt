@@ -15,7 +15,7 @@ use strings::subject_count;
 ghost use mathlib.Core.Path.{_≡_};
 ghost use lib.ListN.{length};
 ghost use Rattle.reading.specs.Calls.{refusalOf, listingOn, tableOn};
-ghost use Rattle.listing.specs.Plans.{limitOf, countOf, refused, planOf};
+ghost use Rattle.listing.specs.Plans.{limitOf, countOf, refused, openedOf, planOf};
 ghost use Rattle.listing.specs.Steps.{stepOf, firstOf};
 
 // What the caller is told, how many rows are written (none on a refusal), and where the first name stands.
@@ -115,10 +115,9 @@ fn refuse(answer: usize, count: usize) -> Plan
     }
 }
 
-// What a listing answers, for a table of `lent` rows. "The answer is 0 and the count; or 7, then 3, 4 or 5 (each with count 0),
-// then 8 with the count needed, given exactly when that exceeds the rows lent."
-pub fn planned(bytes: &[u8], lent: usize, which: usize) -> Plan
-    ensures { λ r. ⌜ r ≡ planOf which (now (bytes .entry)) lent ⌝ }
+// What a string answers by itself, for a table with room: "7, then 3, 4 or 5 (each with count 0)", else 0 and the count.
+pub fn opened(bytes: &[u8], which: usize) -> Plan
+    ensures { λ r. ⌜ r ≡ openedOf which (now (bytes .entry)) ⌝ }
 {
     let most = limit(which);
     if bytes.len() > most {
@@ -129,9 +128,6 @@ pub fn planned(bytes: &[u8], lent: usize, which: usize) -> Plan
         let answer = refusal(which);
         return refuse(answer, 0);
     };
-    if k > lent {
-        return refuse(rules::TABLE_TOO_SHORT, k);
-    }
     let first = first_of(bytes, which);
     Plan {
         listed: rules::Listed {
@@ -141,6 +137,19 @@ pub fn planned(bytes: &[u8], lent: usize, which: usize) -> Plan
         rows: k,
         first: first,
     }
+}
+
+// What a listing answers, for a table of `lent` rows. "The answer is 0 and the count; or 7, then 3, 4 or 5 (each with count 0),
+// then 8 with the count needed, given exactly when that exceeds the rows lent."
+pub fn planned(bytes: &[u8], lent: usize, which: usize) -> Plan
+    ensures { λ r. ⌜ r ≡ planOf which (now (bytes .entry)) lent ⌝ }
+{
+    let p = opened(bytes, which);
+    let k = p.rows;
+    if k > lent {
+        return refuse(rules::TABLE_TOO_SHORT, k);
+    }
+    p
 }
 
 // "Rows (kind, start, length, group) go into a table lent as a slice of such records, one for each SAN entry, attribute or

@@ -11,8 +11,10 @@ use Rattle.rules.specs.Constraints.{constraintsGrammar}
 use Rattle.rules.specs.Seen.{Seen, seenRecords}
 use Rattle.rules.specs.Verdict.{outcomeOf, numbersOf, witnessPart, witnessText, witnessPlace}
 use Rattle.rules.specs.Listing.{rowsSeen, listedOf, tableAfter}
+use Rattle.rules.specs.Viewer.{viewOf, openingOf}
 use Rattle.rules.specs.declared.Row.{Row}
 use Rattle.rules.specs.declared.Listed.{Listed}
+use Rattle.rules.specs.declared.View.{View}
 use Rattle.rules.specs.declared.Place.{Place}
 use Rattle.rules.specs.declared.Verdict.{Verdict}
 use Rattle.rules.specs.declared.Outcome.{Outcome}
@@ -68,3 +70,13 @@ listingOn which bytes lent = listedOf (refusalOf which) (seenRows which bytes) l
 -- the lent table afterwards
 unfoldable pub tableOn : ℕ → List ℕ → List Row → List Row
 tableOn which bytes table = tableAfter (seenRows which bytes) table
+
+-- ---- the viewer of that string
+
+-- what an opening answers
+abbrev pub openingOn : ℕ → List ℕ → ℕ
+openingOn which bytes = openingOf (refusalOf which) (seenRows which bytes)
+
+-- what a step from a position shows, and the position after it
+abbrev pub viewOn : ℕ → List ℕ → ℕ → View
+viewOn which bytes = viewOf (seenRows which bytes)

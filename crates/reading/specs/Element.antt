@@ -9,7 +9,7 @@ use borrow.Author.Tests.{lt-ltb, le-ltb, le-leb, ltb-false, eqb-true}
 use lib.ListN.{length, take, drop, length-append, take-append-drop}
 use lib.Seq.{take-at, drop-at, length-take-le}
 use lib.Dec.{T, ltb, leb, eqb, ltb→lt, leb→le, eqb→eq}
-use Rattle.rules.specs.Der.{lengthBytes, element}
+use Rattle.rules.specs.Der.{lengthBytes, element, header}
 use Rattle.reading.specs.Reader.{Front, got, refused, long1, long2, readLength, Raw, raw, writeRaw, contentAfter, readElement}
 use Rattle.reading.specs.Answers.{no-got, shortest-got, enough-got, and-parts}
 
@@ -67,6 +67,10 @@ length-sound (x ∷ b) {n} {r} e = go (ltb x 128) (eqb x 0x81) refl refl
         rw (eqb→eq x 0x82 (w .0)) (long2-sound b (w .1))
 
 -- ---- elements
+
+pub element-length : (t : ℕ) (c : List ℕ) → length (element t c) ≡ header c + length c
+unfolding element header
+element-length t c = simp length-append (omega arith)
 
 pub element-append : (t : ℕ) (c r : List ℕ) → element t c ++ r ≡ t ∷ (lengthBytes (length c) ++ (c ++ r))
 unfolding element

@@ -11,3 +11,4 @@ pub mod Codecs
 pub mod OneReading
 pub mod Views
 pub mod Calls
+pub mod Laid

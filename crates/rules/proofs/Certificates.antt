@@ -348,6 +348,29 @@ constraintsListed = record {
   rows = row 2 6 3 0 ∷ row 9 11 18 0 ∷ row 9 33 17 1 ∷ [];
 }
 
+-- 3/13: the strings that the viewer's examples page through. Headers of the sets and of the sides stand between names
+abbrev pub twoEntries : Rows San.GeneralName
+twoEntries = record {
+  bytes = hex "30 0A 82 03 61 2E 62 82 03 62 2E 63";
+  names = San.plain 0x82 (text "a.b") ∷ San.plain 0x82 (text "b.c") ∷ [];
+  rows = row 2 2 5 0 ∷ row 2 7 5 1 ∷ [];
+}
+
+abbrev pub threeAttributes : Rows (Der.Member Subject.Attribute)
+threeAttributes = record {
+  bytes = hex "30 24 31 16 30 08 06 03 55 04 0A 0C 01 6F 30 0A 06 03 55 04 03 0C 03 61 2E 62 31 0A 30 08 06 03 55 04 03 1E 01 78";
+  names =
+      attribute 0 (hex "55 04 0A") 0x0C (text "o") ∷ attribute 0 Subject.cnOid 0x0C (text "a.b") ∷ attribute 1 Subject.cnOid 0x1E (text "x") ∷ [];
+  rows = row 12 4 10 0 ∷ row 10 14 12 0 ∷ row 11 28 10 1 ∷ [];
+}
+
+abbrev pub threeSubtrees : Rows (Der.Member San.GeneralName)
+threeSubtrees = record {
+  bytes = hex "30 32 A0 14 30 12 A0 10 06 08 2B 06 01 05 05 07 08 07 A0 04 16 02 5F 6D A1 1A 30 05 82 03 61 2E 62 30 11 A0 0F 06 08 2B 06 01 05 05 07 08 07 A0 03 16 01 62";
+  names = side 0 (text "_m") ∷ subtree 1 (San.plain 0x82 (text "a.b")) ∷ side 1 (text "b") ∷ [];
+  rows = row 9 6 18 0 ∷ row 2 28 5 1 ∷ row 9 35 17 1 ∷ [];
+}
+
 -- ---- listings
 
 -- what the table held before

@@ -3,7 +3,7 @@
 use Prim.Native.Nat.{ℕ, _<_}
 use mathlib.Core.Bool.{Bool, true, false, cond}
 use mathlib.Core.Logic.{_↔_}
-use mathlib.Core.List.{List, [], _∷_, _++_}
+use mathlib.Core.List.{List, [], _∷_, _++_, map}
 use lib.ListN.{length, drop, replicate}
 use lib.Dec.{T, ltb, lt→ltb, ltb→lt}
 use Rattle.rules.specs.Bytes.{part, same, begins, before, after, ascii, upTo}
@@ -19,6 +19,8 @@ use Rattle.rules.specs.Matching
 use Rattle.rules.specs.Verdict
 use Rattle.rules.specs.Verdict.{numbers}
 use Rattle.rules.specs.Listing
+use Rattle.rules.specs.Viewer
+use Rattle.rules.specs.declared.Row.{Row}
 use Rattle.rules.proofs.Text.{text, hex}
 use Rattle.rules.proofs.Test.{all-hold}
 use Rattle.rules.proofs.Holds.{Certificate, Example, subtree, dnsName, tested, written, verdict, refused, sanRows, subjectRows, constraintsRows, listing, All, recordBytes}
@@ -348,12 +350,60 @@ listings =
     ∷ listing Certificates.unread
     ∷ []
 
+-- ---- 3/13: the viewer
+
+-- a step from a position: 1 and a row's four numbers, or 0 and four zeros; and the position after it
+abbrev view : Seen.Seen Row → ℕ → List ℕ → Example
+view x at numbers =
+    let n = Viewer.viewNumbers (Viewer.viewOf x at) in
+    written (n .shown ∷ n .kind ∷ n .start ∷ n .length ∷ n .group ∷ n .at ∷ []) numbers
+
+-- the positions after so many steps from an opening
+abbrev paged : List Row → List ℕ → List ℕ → Example
+paged rows steps positions = written (map (Viewer.nthAt (Viewer.viewOf (listed rows)) Viewer.openingAt) steps) positions
+
+-- "Opening unreadable bytes is refused with 3, 4 or 5, over-long ones with 7, in 01's order."
+abbrev openings : List Example
+openings =
+    written (Viewer.openingOf 3 tooLong ∷ Viewer.openingOf 4 tooLong ∷ Viewer.openingOf 5 tooLong ∷ []) (7 ∷ 7 ∷ 7 ∷ [])
+    ∷ written (Viewer.openingOf 3 unreadable ∷ Viewer.openingOf 4 unreadable ∷ Viewer.openingOf 5 unreadable ∷ []) (3 ∷ 4 ∷ 5 ∷ [])
+    ∷ written (Viewer.openingOf 3 (listed []) ∷ Viewer.openingOf 4 (listed (Certificates.threeAttributes .rows)) ∷ []) (0 ∷ 0 ∷ [])
+    ∷ []
+
+abbrev views : List Example
+views =
+    sanRows Certificates.twoEntries
+    ∷ subjectRows Certificates.threeAttributes
+    ∷ constraintsRows Certificates.threeSubtrees
+    -- "the first row .. that starts at or past the position, whatever position it's handed"
+    ∷ view (listed (Certificates.twoEntries .rows)) 0 (1 ∷ 2 ∷ 2 ∷ 5 ∷ 0 ∷ 7 ∷ [])
+    ∷ view (listed (Certificates.twoEntries .rows)) 2 (1 ∷ 2 ∷ 2 ∷ 5 ∷ 0 ∷ 7 ∷ [])
+    ∷ view (listed (Certificates.twoEntries .rows)) 3 (1 ∷ 2 ∷ 7 ∷ 5 ∷ 1 ∷ 12 ∷ [])
+    ∷ view (listed (Certificates.twoEntries .rows)) 7 (1 ∷ 2 ∷ 7 ∷ 5 ∷ 1 ∷ 12 ∷ [])
+    -- "a step at the end doesn't move it"
+    ∷ view (listed (Certificates.twoEntries .rows)) 8 (0 ∷ 0 ∷ 0 ∷ 0 ∷ 0 ∷ 8 ∷ [])
+    ∷ view (listed (Certificates.twoEntries .rows)) 12 (0 ∷ 0 ∷ 0 ∷ 0 ∷ 0 ∷ 12 ∷ [])
+    ∷ view (listed (Certificates.twoEntries .rows)) 18446744073709551615 (0 ∷ 0 ∷ 0 ∷ 0 ∷ 0 ∷ 18446744073709551615 ∷ [])
+    -- from a subtree's SEQUENCE its GeneralName is shown
+    ∷ view (listed (Certificates.threeSubtrees .rows)) 26 (1 ∷ 2 ∷ 28 ∷ 5 ∷ 1 ∷ 33 ∷ [])
+    -- "or the listing refuses the bytes, it says that it's at the end"; an absent string has no row either
+    ∷ view tooLong 0 (0 ∷ 0 ∷ 0 ∷ 0 ∷ 0 ∷ 0 ∷ [])
+    ∷ view unreadable 3 (0 ∷ 0 ∷ 0 ∷ 0 ∷ 0 ∷ 3 ∷ [])
+    ∷ view (listed []) 0 (0 ∷ 0 ∷ 0 ∷ 0 ∷ 0 ∷ 0 ∷ [])
+    -- "After a row the position stands just past its element.", be it the header of a set or of a side
+    ∷ paged (Certificates.twoEntries .rows) (0 ∷ 1 ∷ 2 ∷ 3 ∷ []) (0 ∷ 7 ∷ 12 ∷ 12 ∷ [])
+    ∷ paged (Certificates.threeAttributes .rows) (1 ∷ 2 ∷ 3 ∷ 4 ∷ []) (14 ∷ 26 ∷ 38 ∷ 38 ∷ [])
+    ∷ paged (Certificates.threeSubtrees .rows) (1 ∷ 2 ∷ 3 ∷ 4 ∷ []) (24 ∷ 33 ∷ 52 ∷ 52 ∷ [])
+    ∷ []
+
 abbrev pub table : List Example
 table =
-    domains ++ (services ++ (uris ++ (records ++ (generalNames ++ (groups ++ (absences ++ (verdicts ++ (refusals ++ (witnesses ++ listings)))))))))
+    domains
+    ++ (services
+    ++ (uris ++ (records ++ (generalNames ++ (groups ++ (absences ++ (verdicts ++ (refusals ++ (witnesses ++ (listings ++ (openings ++ views)))))))))))
 
 pub desk : All table
-unfolding part same begins before after ascii upTo Names.letter Names.digit Names.letterDigitHyphen Names.lower Names.sameText Names.ldh Names.label Names.longer Names.labels Names.lastOf Names.domain Names.twoLabels Names.sameLabels Names.sameDomain Names.wildcard Names.dnsId Names.leftmostMatches Names.labelsMatch Names.dnsMatches Names.service Names.serviceOf Names.domainOf Names.srvId Names.srvMatches Names.restriction Names.givenService Names.givenDomain Names.lastLabels Names.domainWithin Names.inSubtree Names.schemeByte Names.scheme Names.schemeOf Names.authorityEnd Names.authorityOf Names.hostAndPort Names.hostOf Names.portOf Names.uriId Names.uriMatches Records.referenceOf Records.filled Records.goodService Records.goodReference Records.goodRecord Records.split Records.recordsOf Records.goodRecords Records.referencesOf Der.lengthBytes Der.element Der.header Der.run Der.push Der.groups Der.rowsOfMembers Der.rowsOfGroups San.tagOf San.contentOf San.writeName San.sealed San.goodValue San.goodSrvName San.goodName San.nameKind San.rowsOfNames Subject.writeAttribute Subject.goodAttribute Subject.writeSet Subject.goodSet Subject.numbered Subject.isCn Subject.attributeKind Subject.attributeRow Seen.seenRecords Matching.taggedText Matching.srvText Matching.entryText Matching.soleCn Matching.cnText Matching.blocksCn Matching.presentedIn Matching.presentedTo Matching.textMatches Matching.matches Matching.firstPair Matching.srvSubtrees Matching.liesIn Matching.allowed Matching.breaks Matching.firstBroken Verdict.witnessOf Verdict.judged Verdict.outcomeOf Verdict.numbersOf Verdict.verdictOf Constraints.goodRestriction Constraints.goodSubtree Constraints.writeSubtree Constraints.writeSide Constraints.goodSide Constraints.subtreeRow Listing.listedOf Listing.tableAfter Records.shownAt Records.shown Verdict.witnessText Verdict.witnessPlace Verdict.witnessPart
+unfolding part same begins before after ascii upTo Names.letter Names.digit Names.letterDigitHyphen Names.lower Names.sameText Names.ldh Names.label Names.longer Names.labels Names.lastOf Names.domain Names.twoLabels Names.sameLabels Names.sameDomain Names.wildcard Names.dnsId Names.leftmostMatches Names.labelsMatch Names.dnsMatches Names.service Names.serviceOf Names.domainOf Names.srvId Names.srvMatches Names.restriction Names.givenService Names.givenDomain Names.lastLabels Names.domainWithin Names.inSubtree Names.schemeByte Names.scheme Names.schemeOf Names.authorityEnd Names.authorityOf Names.hostAndPort Names.hostOf Names.portOf Names.uriId Names.uriMatches Records.referenceOf Records.filled Records.goodService Records.goodReference Records.goodRecord Records.split Records.recordsOf Records.goodRecords Records.referencesOf Der.lengthBytes Der.element Der.header Der.run Der.push Der.groups Der.rowsOfMembers Der.rowsOfGroups San.tagOf San.contentOf San.writeName San.sealed San.goodValue San.goodSrvName San.goodName San.nameKind San.rowsOfNames Subject.writeAttribute Subject.goodAttribute Subject.writeSet Subject.goodSet Subject.numbered Subject.isCn Subject.attributeKind Subject.attributeRow Seen.seenRecords Matching.taggedText Matching.srvText Matching.entryText Matching.soleCn Matching.cnText Matching.blocksCn Matching.presentedIn Matching.presentedTo Matching.textMatches Matching.matches Matching.firstPair Matching.srvSubtrees Matching.liesIn Matching.allowed Matching.breaks Matching.firstBroken Verdict.witnessOf Verdict.judged Verdict.outcomeOf Verdict.numbersOf Verdict.verdictOf Constraints.goodRestriction Constraints.goodSubtree Constraints.writeSubtree Constraints.writeSide Constraints.goodSide Constraints.subtreeRow Listing.listedOf Listing.tableAfter Records.shownAt Records.shown Verdict.witnessText Verdict.witnessPlace Verdict.witnessPart Viewer.rowFrom Viewer.rowOrEnd Viewer.viewOf Viewer.openingOf Viewer.nthAt Viewer.numbersAt Viewer.viewNumbers
 desk = all-hold table tt
 
 -- ---- "Longest inputs, in bytes: SAN 16,384; subject 4,096; constraints 16,384; references 5,120. One byte more is answer 7."

@@ -11,3 +11,4 @@ pub mod Seen
 pub mod Matching
 pub mod Verdict
 pub mod Listing
+pub mod Viewer

@@ -75,6 +75,29 @@ pub struct Listed {
     pub count: usize,
 }
 
+// What a viewer shows: a name's row, or that it is at the end.
+pub enum Sight {
+    Name(Row),
+    End,
+}
+
+// A step of a viewer: what it shows, and the position after it.
+pub struct View {
+    pub sight: Sight,
+    pub at: usize,
+}
+
+// A step's six numbers. The numbers of each case are `viewNumbers` of specs/Viewer.antt.
+#[repr(C)]
+pub struct ViewNumbers {
+    pub shown: usize,
+    pub kind: usize,
+    pub start: usize,
+    pub length: usize,
+    pub group: usize,
+    pub at: usize,
+}
+
 // A verdict's five numbers.
 pub struct Verdict {
     pub answer: usize,

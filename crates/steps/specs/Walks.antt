@@ -17,6 +17,7 @@ use Rattle.rules.specs.declared.Row.{Row}
 use Rattle.reading.specs.Reader.{then, when, asIs, also, Raw, raw, writeRaw, tagged, alone, items}
 use Rattle.reading.specs.Strings.{nameOf, readName, readSan}
 use Rattle.reading.specs.Answers.{no-some, then-some, when-some}
+use Rattle.reading.specs.Element.{element-length}
 use Rattle.reading.specs.Runs.{items-end, items-open, items-next}
 use Rattle.reading.specs.Codec.{itemsC}
 use Rattle.reading.specs.Codecs.{nameC}
@@ -151,10 +152,6 @@ module _ (s : List ℕ) where
       (rw (group, there) (names-walk l n end (suc i) (d .rest) fits (omega (arith, d .head, d .body)) r))
 
 -- ---- where an element's content starts
-
-element-length : (t : ℕ) (c : List ℕ) → length (element t c) ≡ header c + length c
-unfolding element header
-element-length t c = simp length-append (omega arith)
 
 pub content-start : (s : List ℕ) (at end t b n : ℕ) → end ≤ length s → Read s at end t b n → b ≡ at + header (slice b n s)
 content-start s at end t b n fits d =

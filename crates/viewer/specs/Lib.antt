@@ -1,0 +1,2 @@
+-- A viewer after an opening and after a step.
+pub mod Viewers
