@@ -97,7 +97,7 @@ pub table-is : (which : ℕ) (s : List ℕ) (table : List Row)
 unfolding tableOn planOf planFor openedOf openedFor refused tableAfter rowsBy
 table-is which s table = go (seenRows which s) refl
   where
-    abbrev planned : Seen Row → Plan
+    planned : Seen Row → Plan
     planned x = planFor (length table) (openedFor (refusalOf which) x (firstOf which s))
 
     tell : (t : Bool) (rows : List Row) → ltb (length table) (length rows) ≡ t → seenRows which s ≡ listed rows
