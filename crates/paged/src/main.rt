@@ -34,14 +34,13 @@ fn page(title: &[u8], bytes: &[u8], which: usize) {
     write_number(b": ", viewer::opening(bytes, which));
     let first = viewer::viewed(bytes, which, 0);
     write_view(b"; ", first);
-    let mut at = first.at;
-    let mut i = 0;
-    while i < 4 {
-        let v = viewer::viewed(bytes, which, at);
-        write_view(b", ", v);
-        at = v.at;
-        i += 1;
-    }
+    let second = viewer::viewed(bytes, which, first.at);
+    write_view(b", ", second);
+    let third = viewer::viewed(bytes, which, second.at);
+    write_view(b", ", third);
+    let fourth = viewer::viewed(bytes, which, third.at);
+    write_view(b", ", fourth);
+    write_view(b", ", viewer::viewed(bytes, which, fourth.at));
     io::write_all(STDOUT_FILENO, b"\n");
 }
 
@@ -57,22 +56,20 @@ fn write_start(v: View) {
 
 // A step from each position to two past the string.
 fn from_each(title: &[u8], bytes: &[u8], which: usize)
-    requires { ⌜ length (now (bytes .entry)) < 1000 ⌝ }
+    requires { ⌜ length (now bytes) < 1000 ⌝ }
 {
     let last = bytes.len() + 2;
     io::write_all(STDOUT_FILENO, title);
     write_number(b", from 0 to ", last);
     io::write_all(STDOUT_FILENO, b":");
-    let mut at = 0;
-    while at <= last {
+    for at in 0..=last {
         write_start(viewer::viewed(bytes, which, at));
-        at += 1;
     }
     io::write_all(STDOUT_FILENO, b"\n");
 }
 
 fn show(title: &[u8], bytes: &[u8], which: usize)
-    requires { ⌜ length (now (bytes .entry)) < 1000 ⌝ }
+    requires { ⌜ length (now bytes) < 1000 ⌝ }
 {
     page(title, bytes, which);
     from_each(title, bytes, which);

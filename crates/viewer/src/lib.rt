@@ -95,13 +95,13 @@ pub fn step<'a>(v: Viewer<'a>) -> Stepped<'a>
 }
 
 // A step of a viewer that stands at a position, with plain parameters: whoever calls it holds no viewer.
-pub fn viewed(der: &[u8], which: usize, at: usize) -> View
-    ensures { λ r. ⌜ r ≡ viewOn which (now (der .entry)) at ⌝ }
+pub fn viewed(der: &[u8], which: usize, position: usize) -> View
+    ensures { λ r. ⌜ r ≡ viewOn which (now (der .entry)) position ⌝ }
 {
     let t = step(Viewer {
         der: der,
         which: which,
-        at: at,
+        at: position,
     });
     View {
         sight: t.sight,
