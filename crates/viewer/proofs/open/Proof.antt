@@ -45,7 +45,6 @@ use denote.Triple.Table.{entered, cited}
 use denote.Triple.Walked.{says, Stays, stay-none, stay-none-slice, walkOf, goes-none, goes-none-slice, Walks, ends-at, walked, walk-meets}
 use denote.Exit.{yes}
 use Rattle.reading.specs.Calls.{openingOn}
-use Rattle.viewer.specs.Viewers.{openedBy}
 use Rattle.viewer.specs.declared.Viewer.{Viewer}
 use Rattle.viewer.specs.declared.Opened.{Opened}
 use Rattle.viewer.proofs.Viewer as T
@@ -77,10 +76,10 @@ module _ {M : Type 1} (𝓤 : URA M) (H : Heap 𝓤) (A : Atoms 𝓤) (W : Given
   ans = openingOn n (now s)
 
   abbrev made : Viewer
-  made = openedBy s n .viewer
+  made = record { der = s; which = n; at = 0 }
 
   abbrev res : Opened
-  res = openedBy s n
+  res = record { answer = ans; viewer = made }
 
   abbrev mach-res : Val
   mach-res = LL.val (R.the-type α) (R′.the-laws α) res

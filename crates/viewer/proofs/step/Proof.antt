@@ -44,7 +44,6 @@ use denote.Triple.Table.{entered, cited}
 use denote.Triple.Walked.{says, Stays, stay-none, walkOf, goes-none, Walks, ends-at, walked, walk-meets}
 use denote.Exit.{yes}
 use Rattle.reading.specs.Calls.{viewOn}
-use Rattle.viewer.specs.Viewers.{steppedBy}
 use Rattle.viewer.specs.declared.Viewer.{Viewer}
 use Rattle.rules.specs.declared.View.{View}
 use Rattle.viewer.specs.declared.Stepped.{Stepped}
@@ -85,10 +84,10 @@ module _ {M : Type 1} (𝓤 : URA M) (H : Heap 𝓤) (A : Atoms 𝓤) (W : Given
   se = viewOn (h .which) (now (h .der)) (h .at)
 
   abbrev h′ : Viewer
-  h′ = steppedBy h .viewer
+  h′ = record { der = h .der; which = h .which; at = se .at }
 
   abbrev res : Stepped
-  res = steppedBy h
+  res = record { sight = se .sight; viewer = h′ }
 
   -- its machine value. (`R′.lowered res` is not this one by computation, since res holds an enum that is not known)
   abbrev mach-res : Val
