@@ -14,7 +14,7 @@ use Rattle.rules.specs.Seen.{listed}
 use Rattle.rules.specs.Viewer.{rowFrom, rowOrEnd, viewOf, openingAt, nthAt, nthSight}
 use Rattle.rules.specs.declared.Row.{Row}
 use Rattle.rules.specs.declared.Sight.{Sight}
-use Rattle.rules.specs.declared.Sight.the-variants.{Name, End}
+use Rattle.rules.specs.declared.Sight.the-variants.{Name}
 use Rattle.rules.specs.declared.View.{View}
 use Rattle.reading.specs.Answers.{no-some}
 use Rattle.reading.specs.Laid.{Laid, next, row-here, row-later, row-none, end-or-row}

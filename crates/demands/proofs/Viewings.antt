@@ -1,5 +1,5 @@
 -- The viewer of each string does what request 3/13 says.
-use Prim.Native.Nat.{ℕ, zero, suc, _≤_, _<_}
+use Prim.Native.Nat.{ℕ, _≤_, _<_}
 use mathlib.Core.Path.{_≡_, refl, sym, ap, subst, _∙_}
 use mathlib.Core.Logic.{_↔_, _≢_, inl, inr}
 use mathlib.Core.Option.{some}
@@ -12,7 +12,6 @@ use Rattle.rules.specs.Listing.{rowsSeen}
 use Rattle.rules.specs.Viewer.{rowOrEnd, viewOf, openingOf, openingAt, nthAt, nthSight}
 use Rattle.rules.specs.declared.Row.{Row}
 use Rattle.rules.specs.declared.Sight.the-variants.{Name}
-use Rattle.rules.specs.declared.View.{View}
 use Rattle.reading.specs.Calls.{seenRows, openingOn, viewOn}
 use Rattle.reading.specs.Laid.{Laid, rows-laid}
 use Rattle.demands.specs.Statements.{CertificateString, stringOf}
@@ -85,7 +84,6 @@ module _ (which : ℕ) (S : CertificateString) (L : Lists which S) where
     in-order = in-order;
     then-end = then-end;
     absent = absent;
-    side-by-side = laid;
   }
 
 -- of every number

@@ -13,7 +13,6 @@ use Rattle.rules.specs.declared.Row.{Row}
 use Rattle.rules.specs.declared.Sight.the-variants.{Name, End}
 use Rattle.rules.specs.declared.View.{View}
 use Rattle.reading.specs.Calls.{openingOn, viewOn}
-use Rattle.reading.specs.Laid.{Laid}
 use Rattle.demands.specs.Statements.{CertificateString, Answer, when, EachExactly, Unreadable}
 
 -- "Opening unreadable bytes is refused with 3, 4 or 5, over-long ones with 7, in 01's order."
@@ -64,7 +63,3 @@ pub record Viewing (which : ℕ) (S : CertificateString) : Type 0 where
       → viewOn which bytes (nthAt (viewOn which bytes) openingAt i) ≡ endAt (nthAt (viewOn which bytes) openingAt i)
   -- "An absent string opens at its end."
   pub absent : T (S .input .optional) → (openingOn which [] ≡ 0) × (viewOn which [] openingAt ≡ endAt openingAt)
-  -- each row ends no later than the next starts, none is empty, and the last ends within the bytes
-  pub side-by-side :
-      (bytes : List ℕ) (list : List (S .Name)) → Sees (S .input) bytes (listed list)
-      → Laid 0 (length bytes) (S .input .grammar .rows list)

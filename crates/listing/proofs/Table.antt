@@ -1,6 +1,6 @@
 -- What is planned and shown step by step is what the listing's contract says: the answer and the count, and the table afterwards.
-use Prim.Native.Nat.{ℕ, suc, _≤_, zero-le}
-use mathlib.Core.Path.{_≡_, refl, sym, ap, _∙_}
+use Prim.Native.Nat.{ℕ, _≤_, zero-le}
+use mathlib.Core.Path.{_≡_, refl, ap}
 use mathlib.Core.Bool.{Bool, true, false, cond}
 use mathlib.Core.Option.{Option, none, some}
 use mathlib.Core.List.{List, [], _∷_, _++_}
@@ -8,9 +8,6 @@ use native.Mathlib.Omega.{arith}
 use lib.Dec.{ltb, eqb}
 use lib.ListN.{length, drop}
 use borrow.Author.Tests.{ltb-false, le-ltb}
-use Rattle.rules.specs.San.{sanGrammar}
-use Rattle.rules.specs.Subject.{subjectGrammar}
-use Rattle.rules.specs.Constraints.{constraintsGrammar}
 use Rattle.rules.specs.Seen.{Seen, tooLong, unreadable, listed, Input, sanInput, subjectInput, constraintsInput}
 use Rattle.rules.specs.Listing.{rowsSeen, listedOf, tableAfter}
 use Rattle.rules.specs.declared.Row.{Row}

@@ -6,7 +6,7 @@ use mathlib.Core.Option.{Option, none, some}
 use mathlib.Core.List.{List, [], _∷_, _++_}
 use native.Mathlib.Omega.{arith}
 use native.Mathlib.Numerals.{add-one}
-use lib.ListN.{length, length-append}
+use lib.ListN.{length}
 use lib.Dec.{T, eqb, ltb}
 use lib.Seq.{slice, slice-empty, length-slice, take-length}
 use borrow.Author.Tests.{lt-ltb, le-ltb, eqb-true, eqb-false}
