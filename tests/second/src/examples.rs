@@ -1,8 +1,9 @@
 //! The desk examples and the old faults of document 01, and the examples of
-//! requests 1/13 and 2/13, as one numbered table. P1 to P16 are the document's
+//! requests 1/13 to 3/13, as one numbered table. P1 to P16 are the document's
 //! numbers; D1 on are the desk examples without a number, in order; F1 to F5 the
 //! old faults, in order; L1 on the examples of request 1/13, about labels; A1 on
-//! those of request 2/13, about addresses.
+//! those of request 2/13, about addresses; V1 on strings for the viewer of
+//! request 3/13.
 
 use crate::generate::Case;
 use crate::records::kind::{CN, DNS, SRV, URI};
@@ -26,6 +27,21 @@ pub const S: [u8; 7] = [0x30, 0x05, 0x82, 0x03, 0x61, 0x2E, 0x62];
 pub const J: [u8; 16] = [
     0x30, 0x0E, 0x31, 0x0C, 0x30, 0x0A, 0x06, 0x03, 0x55, 0x04, 0x03, 0x0C, 0x03, 0x61, 0x2E, 0x62,
 ];
+
+/// A SAN of the dNSNames `a.b` and `b.c`.
+pub const TWO_ENTRIES: [u8; 12] = *b"\x30\x0A\x82\x03a.b\x82\x03b.c";
+
+/// A subject of two sets: another attribute and the CN `a.b`; a CN whose tag is
+/// none of the three.
+pub const THREE_ATTRIBUTES: [u8; 38] = *b"\x30\x24\x31\x16\x30\x08\x06\x03\x55\x04\x0A\x0C\x01o\
+    \x30\x0A\x06\x03\x55\x04\x03\x0C\x03a.b\x31\x0A\x30\x08\x06\x03\x55\x04\x03\x1E\x01x";
+
+/// Constraints of both sides: the SRVName `_m` is permitted, the dNSName `a.b`
+/// and the SRVName `b` are excluded.
+pub const THREE_SUBTREES: [u8; 52] = *b"\x30\x32\
+    \xA0\x14\x30\x12\xA0\x10\x06\x08\x2B\x06\x01\x05\x05\x07\x08\x07\xA0\x04\x16\x02_m\
+    \xA1\x1A\x30\x05\x82\x03a.b\
+    \x30\x11\xA0\x0F\x06\x08\x2B\x06\x01\x05\x05\x07\x08\x07\xA0\x03\x16\x01b";
 
 /// RFC 4985, section 4: restriction, name, and whether the name is inside.
 const RFC_4985: [(&str, &str, bool); 11] = [
@@ -57,6 +73,7 @@ pub fn table() -> Vec<Example> {
     table.extend(address_records());
     table.extend(address_srv_names());
     table.extend(address_restrictions());
+    table.extend(viewed());
     table
 }
 
@@ -546,4 +563,45 @@ fn address_restrictions() -> Vec<Example> {
         under("A40: URI", uri_name(b"x://10.4.0.7"), kept),
     ]
     .concat()
+}
+
+/// Request 3/13 names no bytes. These are strings of several rows, of none, and
+/// some that are refused, for the desk to page through.
+fn viewed() -> Vec<Example> {
+    let all = Case {
+        subject: THREE_ATTRIBUTES.to_vec(),
+        constraints: THREE_SUBTREES.to_vec(),
+        ..case(TWO_ENTRIES.to_vec(), record(DNS, b"", b"b.c"))
+    };
+    let no_san = Case {
+        san: Vec::new(),
+        references: record(CN, b"", b"a.b"),
+        ..all.clone()
+    };
+    let of_subject = |subject: &[u8]| Case {
+        subject: subject.to_vec(),
+        ..all.clone()
+    };
+    let of_constraints = |constraints: &[u8]| Case {
+        constraints: constraints.to_vec(),
+        ..all.clone()
+    };
+    let of_san = |san: &[u8]| Case {
+        san: san.to_vec(),
+        ..all.clone()
+    };
+    let second_entry = [0, 0, 1, 7, 5];
+    vec![
+        example("V1", all.clone(), second_entry),
+        example("V2", no_san, [0, 0, 0, 14, 12]),
+        example("V3", of_subject(b"\x30\x00"), second_entry),
+        example("V4", of_constraints(b"\x30\x00"), bare(5)),
+        example("V5", of_subject(b""), bare(4)),
+        example("V6", of_constraints(b""), second_entry),
+        example("V7", of_san(b"\x30\x04\x82\x00\x82\x00"), bare(1)),
+        example("V8", of_san(b"\x30\x02\x82\x00\x00"), bare(3)),
+        example("V9", of_san(&THREE_ATTRIBUTES), bare(3)),
+        example("V10", of_subject(&THREE_SUBTREES), bare(4)),
+        example("V11", of_constraints(&TWO_ENTRIES), bare(5)),
+    ]
 }

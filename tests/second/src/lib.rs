@@ -1,6 +1,6 @@
 //! A second implementation of the certificate name check, written from the
 //! document "The rules and what will be built" (document 01) and requests 1/13
-//! and 2/13 of "New change requests from customers" (document 02) alone. Quoted
+//! to 3/13 of "New change requests from customers" (document 02) alone. Quoted
 //! sentences in the comments are document 01's, or a request's where they say
 //! so.
 
@@ -18,6 +18,7 @@ pub mod subject;
 pub mod text;
 pub mod tree;
 pub mod verdict;
+pub mod viewer;
 
 #[cfg(feature = "archive")]
 pub mod archive;
@@ -26,6 +27,7 @@ pub use listing::{list, list_into, Listed, Listing, Which};
 pub use name::Row;
 pub use records::{record, RecordView};
 pub use verdict::{judge, text_place, verdict, Outcome, Place, Verdict};
+pub use viewer::Viewer;
 
 /// "Numbers the kiosk sees": what each answer means.
 pub mod answer {

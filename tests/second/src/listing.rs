@@ -14,7 +14,8 @@ pub enum Which {
 impl Which {
     pub const ALL: [Which; 3] = [Which::San, Which::Subject, Which::Constraints];
 
-    fn longest(self) -> usize {
+    /// The most bytes that it may have.
+    pub fn longest(self) -> usize {
         match self {
             Which::San => longest::SAN,
             Which::Subject => longest::SUBJECT,
@@ -22,7 +23,8 @@ impl Which {
         }
     }
 
-    fn unreadable(self) -> u32 {
+    /// The answer to unreadable bytes.
+    pub fn unreadable(self) -> u32 {
         match self {
             Which::San => answer::SAN_UNREADABLE,
             Which::Subject => answer::SUBJECT_UNREADABLE,
@@ -30,34 +32,30 @@ impl Which {
         }
     }
 
-    /// Visits the names of the string, in byte order.
-    fn read<'a>(self, bytes: &'a [u8], visit: impl FnMut(Name<'a>)) -> Option<()> {
-        match self {
+    /// Visits the names of the string, in byte order. "7, then 3, 4 or 5": a
+    /// refusal is the error, and some names may have been visited before it.
+    pub(crate) fn read<'a>(self, bytes: &'a [u8], visit: impl FnMut(Name<'a>)) -> Result<(), u32> {
+        if bytes.len() > self.longest() {
+            return Err(answer::TOO_LONG);
+        }
+        let readable = match self {
             Which::San => san::read(bytes, visit),
             Which::Subject => subject::read(bytes, visit, |_| ()),
             Which::Constraints => constraints::read(bytes, visit),
-        }
+        };
+        readable.ok_or(self.unreadable())
     }
 
     /// "Only the listed string is judged. The answer is 0 and the count; or 7,
     /// then 3, 4 or 5 (each with count 0)".
     fn count(self, bytes: &[u8]) -> Listed {
-        if bytes.len() > self.longest() {
-            return Listed {
-                answer: answer::TOO_LONG,
-                count: 0,
-            };
-        }
         let mut count = 0;
         match self.read(bytes, |_| count += 1) {
-            Some(()) => Listed {
+            Ok(()) => Listed {
                 answer: answer::MATCH,
                 count,
             },
-            None => Listed {
-                answer: self.unreadable(),
-                count: 0,
-            },
+            Err(answer) => Listed { answer, count: 0 },
         }
     }
 }

@@ -1,5 +1,5 @@
 //! The desk examples and old faults of document 01 and the examples of requests
-//! 1/13 and 2/13, by number.
+//! 1/13 to 3/13, by number.
 
 use second::examples::{table, J, S};
 use second::records::kind::{CN, DNS, SRV, URI};
@@ -30,6 +30,7 @@ fn every_number_is_in_the_table() {
     let wanted = wanted.chain((11..=14).map(|number| format!("L{number}")));
     let wanted = wanted.chain((7..=27).map(|number| format!("A{number}")));
     let wanted = wanted.chain((30..=37).map(|number| format!("A{number}")));
+    let wanted = wanted.chain((1..=11).map(|number| format!("V{number}")));
     for number in wanted.chain(["F1", "F2", "F3", "F4"].map(String::from)) {
         assert!(numbers.contains(&number), "{number} is missing");
     }
