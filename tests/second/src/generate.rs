@@ -4,6 +4,7 @@ pub mod boundary;
 mod crowd;
 mod draft;
 mod mutate;
+pub mod positions;
 pub mod random;
 mod uri;
 mod words;
@@ -47,7 +48,8 @@ pub fn case(seed: u64, number: u64) -> Case {
         6..=8 => Draft::sized(&mut random, &pool),
         9..=34 => Draft::constrained(&mut random, &pool),
         35..=54 => Draft::subject_only(&mut random, &pool),
-        _ => Draft::plain(&mut random, &pool),
+        55..=96 => Draft::plain(&mut random, &pool),
+        _ => Draft::uneven(&mut random, &pool),
     };
     if random.one_in(6) {
         mutate::draft(&mut random, &mut draft);

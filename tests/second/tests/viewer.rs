@@ -2,9 +2,11 @@
 //! against a slow reading of the request over the listing.
 
 use second::examples::{THREE_ATTRIBUTES, THREE_SUBTREES, TWO_ENTRIES};
+use second::generate::positions::positions;
 use second::generate::{self, boundary, Case, Random};
 use second::tree::*;
 use second::{list, Row, Viewer, Which};
+use std::collections::BTreeSet;
 
 /// What a step shows, and the position after it.
 type Sight = (Option<[usize; 4]>, usize);
@@ -254,4 +256,103 @@ fn paging_shows_the_listing() {
             assert_eq!((viewer.step(), viewer.position()), (None, position));
         }
     });
+}
+
+/// "Each step shows the first row of 01's listing that starts at or past the
+/// position", in a table of all rows.
+fn first_from(rows: &[Row], at: usize) -> Option<Row> {
+    rows.iter().copied().find(|row| row.start >= at)
+}
+
+#[test]
+fn positions_against_the_listing() {
+    each_string(|bytes, which, random| {
+        let rows = list(bytes, which).rows;
+        for at in positions(random, bytes.len(), &rows) {
+            let mut viewer = Viewer::at(bytes, which, at);
+            let row = viewer.step();
+            assert_eq!(
+                row,
+                first_from(&rows, at),
+                "{which:?} from {at}: {bytes:02X?}"
+            );
+            let after = row.map_or(at, |row| row.start + row.length);
+            assert_eq!(viewer.position(), after);
+        }
+    });
+}
+
+/// What a row has behind another one: what it is, in how many SANs, subjects and
+/// constraints it must be there, and how it is told.
+type Behind = (&'static str, [u32; 3], fn(&[u8], &Row, &Row) -> bool);
+
+const BEHIND: [Behind; 5] = [
+    ("header of 2 bytes", [1_000; 3], |bytes, _, row| {
+        header(bytes, row) == 2
+    }),
+    ("header of 3 bytes", [200; 3], |bytes, _, row| {
+        header(bytes, row) == 3
+    }),
+    ("header of 4 bytes", [200; 3], |bytes, _, row| {
+        header(bytes, row) == 4
+    }),
+    ("another group", [1_000; 3], |_, before, row| {
+        before.group != row.group
+    }),
+    // Each entry of a SAN is a group of its own.
+    ("the same group", [0, 1_000, 1_000], |_, before, row| {
+        before.group == row.group
+    }),
+];
+
+/// The bytes of the header of a row's element.
+fn header(bytes: &[u8], row: &Row) -> usize {
+    match bytes[row.start + 1] {
+        0x81 => 3,
+        0x82 => 4,
+        _ => 2,
+    }
+}
+
+#[test]
+fn the_positions_of_request_3_are_tried() {
+    const CASES: u64 = 40_000;
+    let mut counts = [[0; 3]; BEHIND.len()];
+    for number in 0..CASES {
+        for (which, bytes) in strings(&generate::case(7, number)) {
+            let rows = list(bytes, which).rows;
+            for (counts, (_, _, is)) in counts.iter_mut().zip(BEHIND) {
+                let found = rows.windows(2).any(|pair| is(bytes, &pair[0], &pair[1]));
+                counts[which as usize] += u32::from(found);
+            }
+        }
+    }
+    for (counts, (what, leasts, _)) in counts.into_iter().zip(BEHIND) {
+        let enough = counts
+            .iter()
+            .zip(&leasts)
+            .all(|(count, least)| count >= least);
+        assert!(enough, "{what}: {counts:?} of {CASES}");
+    }
+}
+
+/// Positions that a narrower number would cut are tried: in the boundary table
+/// rows of each string start at, before and behind each power of two.
+#[test]
+fn rows_start_next_to_powers_of_two() {
+    let mut starts = [(); 3].map(|()| BTreeSet::new());
+    boundary::each(&mut |(_, case)| {
+        for (which, bytes) in strings(&case) {
+            let rows = list(bytes, which).rows;
+            starts[which as usize].extend(rows.iter().map(|row| row.start));
+        }
+    });
+    for (starts, longest) in starts.iter().zip(Which::ALL.map(Which::longest)) {
+        let powers = (4..).map(|bits| 1 << bits);
+        for power in powers.take_while(|&power: &usize| power < longest) {
+            for start in power - 1..=power + 1 {
+                assert!(starts.contains(&start), "{start} of {longest}");
+            }
+        }
+    }
 }

@@ -4,6 +4,7 @@ mod far;
 mod labels;
 mod lengths;
 mod numbers;
+mod rows;
 mod uris;
 
 use super::draft::{padded_constraints, padded_san, padded_subject};
@@ -43,6 +44,7 @@ pub fn each(take: Taker) {
     labels::each(take);
     lengths::each(take);
     numbers::each(take);
+    rows::each(take);
     uris::each(take);
 }
 

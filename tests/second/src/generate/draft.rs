@@ -85,6 +85,27 @@ impl Draft {
         }
     }
 
+    /// A certificate of several names of all lengths in each string, for the
+    /// positions of viewers: headers of two to four bytes, sets of several
+    /// attributes, both sides.
+    pub fn uneven(random: &mut Random, pool: &Pool) -> Self {
+        let sets = several(random, 1, |random| {
+            rdn(several(random, 1, |random| {
+                let last = *random.pick(&[0x03, 0x0D]);
+                attribute(&[0x55, 0x04, last], uneven(random, &[0x0C, 0x13, 0x1E]))
+            }))
+        });
+        let side = |random: &mut Random, least| {
+            several(random, least, |random| subtree(uneven_name(random, pool)))
+        };
+        Draft {
+            san: Some(san(several(random, 1, |random| uneven_name(random, pool)))),
+            subject: Some(subject(sets)),
+            constraints: Some(constraints(side(random, 0), side(random, 1))),
+            references: references(random, pool, &[DNS, SRV, CN]),
+        }
+    }
+
     /// A certificate with one input at its limit, or next to it.
     pub fn sized(random: &mut Random, pool: &Pool) -> Self {
         let mut draft = Draft::plain(random, pool);
@@ -105,6 +126,25 @@ impl Draft {
             }
         }
         draft
+    }
+}
+
+/// Up to four nodes.
+fn several(random: &mut Random, least: usize, one: impl Fn(&mut Random) -> Node) -> Vec<Node> {
+    let count = random.between(least, 4);
+    (0..count).map(|_| one(random)).collect()
+}
+
+/// An element with up to 600 bytes in it, few as often as many.
+fn uneven(random: &mut Random, tags: &[u8]) -> Node {
+    bytes(*random.pick(tags), &vec![b'u'; random.spread(600)])
+}
+
+/// A name of any length that seldom matches.
+fn uneven_name(random: &mut Random, pool: &Pool) -> Node {
+    match random.below(4) {
+        0 => srv_name(&pool.srv_id(random)),
+        _ => uneven(random, &[0x81, 0x82, 0x86, 0x87, 0x88, 0xA4]),
     }
 }
 
