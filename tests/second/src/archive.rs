@@ -13,6 +13,16 @@ pub struct CListed {
     pub count: usize,
 }
 
+/// What a step of the viewer shows, as C sees it: 1 and a row, or 0 and a row of
+/// zeros at the end; and the position after the step.
+#[repr(C)]
+#[derive(Clone, Copy, Debug, PartialEq, Eq)]
+pub struct CSight {
+    pub shown: usize,
+    pub row: Row,
+    pub at: usize,
+}
+
 /// Declares one number of the verdict: a C function on four slices.
 macro_rules! on_four_slices {
     ($($function:ident)*) => {
@@ -57,6 +67,8 @@ extern "C" {
         bytes_len: usize,
         which: usize,
     ) -> CListed;
+    fn beckethand_opening(bytes: *const u8, bytes_len: usize, which: usize) -> u32;
+    fn beckethand_view(bytes: *const u8, bytes_len: usize, which: usize, at: usize) -> CSight;
 }
 
 /// Pointer and length; NULL for an empty slice, as C programs write it.
@@ -147,4 +159,18 @@ pub fn list_into(table: &mut [Row], bytes: &[u8], number: usize) -> CListed {
     // SAFETY: as in `call`; the table is lent for the call alone, and any
     // numbers are a row.
     unsafe { beckethand_list(rows, table.len(), bytes, bytes_len, number) }
+}
+
+/// The answer of a viewer's opening. The number is as in `list_into`.
+pub fn opening(bytes: &[u8], number: usize) -> u32 {
+    let (bytes, bytes_len) = pair(bytes);
+    // SAFETY: as in `call`.
+    unsafe { beckethand_opening(bytes, bytes_len, number) }
+}
+
+/// One step of a viewer from a position. The number is as in `list_into`.
+pub fn view(bytes: &[u8], number: usize, at: usize) -> CSight {
+    let (bytes, bytes_len) = pair(bytes);
+    // SAFETY: as in `call`.
+    unsafe { beckethand_view(bytes, bytes_len, number, at) }
 }

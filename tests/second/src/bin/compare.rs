@@ -1,24 +1,29 @@
 //! Compares this implementation with the archive of the other one.
 //!
 //! `compare --cases N --seed S` runs the desk examples, the boundary table and
-//! N generated cases, and ends with 1 if an answer or a kind of match never
-//! occurred. With `--first K` it runs the N cases from number K on and nothing
-//! else. `compare --soak` runs cases under fresh seeds until it is stopped. All
-//! end with 1 at the first difference.
+//! N generated cases, and ends with 1 if an answer, a kind of match or something
+//! that a viewer shows never occurred. With `--first K` it runs the N cases from
+//! number K on and nothing else. `compare --soak` runs cases under fresh seeds
+//! until it is stopped. All end with 1 at the first difference.
 
-use second::archive::{self, CListed, Inputs};
+use second::archive::{self, CListed, CSight, Inputs};
+use second::generate::positions::{pages, positions};
 use second::generate::{self, boundary, Case, Random};
 use second::records::RECORD;
-use second::{examples, judge, list, record, Outcome, Row, Which};
-use std::env;
+use second::{examples, judge, list, record, Outcome, Row, Viewer, Which};
+use std::ops::Range;
 use std::process::ExitCode;
 use std::time::{Instant, SystemTime, UNIX_EPOCH};
+use std::{env, fmt};
 
 /// Cases under one seed of a soak.
 const SOAK_ROUND: u64 = 100_000;
 
 /// Indexes past the last record; all but one are 0 in fewer bits.
 const FAR_INDEXES: [usize; 4] = [1 << 8, 1 << 16, 1 << 32, usize::MAX];
+
+/// Steps of a paging behind the last row: the end, and two further.
+const ENDS: usize = 3;
 
 fn main() -> ExitCode {
     let arguments: Vec<String> = env::args().skip(1).collect();
@@ -178,12 +183,13 @@ fn compare(case: &Case, old_rows: &mut Random, tally: &mut Tally) -> Result<(), 
     let strings = [inputs.san, inputs.subject, inputs.constraints];
     for (which, bytes) in Which::ALL.into_iter().zip(strings) {
         compare_listing(inputs, bytes, which, old_rows, tally)?;
+        compare_viewers(inputs, bytes, which, old_rows, tally)?;
     }
     let far = *old_rows.pick(&FAR_INDEXES);
     for index in (0..inputs.references.len() / RECORD + 2).chain([far]) {
         let ours = record(inputs.references, index);
         equal(
-            &format!("record {index}"),
+            format_args!("record {index}"),
             inputs,
             &ours,
             &archive::record(inputs.references, index),
@@ -215,13 +221,122 @@ fn compare_listing(
         let what = format!("listing of {which:?} with {lent} rows lent");
         equal(&what, inputs, &ours, &theirs)?;
         equal(
-            &format!("{what}, table after it"),
+            format_args!("{what}, table after it"),
             inputs,
             &our_table,
             &their_table,
         )?;
     }
     Ok(())
+}
+
+/// Opens viewers of one string, views it from many positions, and pages
+/// through it.
+fn compare_viewers(
+    inputs: Inputs,
+    bytes: &[u8],
+    which: Which,
+    random: &mut Random,
+    tally: &mut Tally,
+) -> Result<(), String> {
+    let string = Viewed {
+        inputs,
+        bytes,
+        which,
+        number: number(which, random),
+    };
+    let tally = &mut tally.viewers[which as usize];
+    string.compare_openings(tally)?;
+    let rows = string.listed();
+    for at in positions(random, bytes.len(), &rows) {
+        string.compare_steps(&mut Viewer::at(bytes, which, at), tally)?;
+    }
+    for pages in pages(random, bytes.len(), rows.len()) {
+        string.compare_pages(&rows, pages, tally)?;
+    }
+    Ok(())
+}
+
+/// One string that both viewers are given.
+struct Viewed<'a> {
+    inputs: Inputs<'a>,
+    bytes: &'a [u8],
+    which: Which,
+    /// What asks the archive for this string.
+    number: usize,
+}
+
+impl Viewed<'_> {
+    /// The rows of the archive's own listing; none where it refuses.
+    fn listed(&self) -> Vec<Row> {
+        let count = archive::list_into(&mut [], self.bytes, self.number).count;
+        let mut rows = vec![Row::default(); count];
+        archive::list_into(&mut rows, self.bytes, self.number);
+        rows
+    }
+
+    fn compare_openings(&self, tally: &mut ViewerTally) -> Result<(), String> {
+        let (ours, _) = Viewer::open(self.bytes, self.which);
+        let theirs = archive::opening(self.bytes, self.number);
+        self.equal("opening", &ours, &theirs)?;
+        tally.openings[ours as usize] += 1;
+        Ok(())
+    }
+
+    /// One step of our viewer, and one of the archive's from the same position.
+    fn compare_steps(
+        &self,
+        viewer: &mut Viewer,
+        tally: &mut ViewerTally,
+    ) -> Result<CSight, String> {
+        let at = viewer.position();
+        let row = viewer.step();
+        let ours = CSight {
+            shown: usize::from(row.is_some()),
+            row: row.unwrap_or_default(),
+            at: viewer.position(),
+        };
+        let theirs = archive::view(self.bytes, self.number, at);
+        self.equal(format_args!("step from {at}"), &ours, &theirs)?;
+        tally.steps[ours.shown] += 1;
+        Ok(theirs)
+    }
+
+    /// Pages through some of the rows and, behind the last row, on to the end
+    /// and two steps further. "From an opening the steps show exactly the
+    /// listing's rows, in order, then the end at every further step."
+    fn compare_pages(
+        &self,
+        rows: &[Row],
+        pages: Range<usize>,
+        tally: &mut ViewerTally,
+    ) -> Result<(), String> {
+        let (_, mut viewer) = Viewer::open(self.bytes, self.which);
+        if let Some(before) = pages.start.checked_sub(1) {
+            let at = rows[before].start + rows[before].length;
+            viewer = Viewer::at(self.bytes, self.which, at);
+        }
+        let whole = pages.len() == rows.len();
+        tally.pagings[usize::from(whole)] += u64::from(!rows.is_empty());
+        let ends = if pages.end == rows.len() { ENDS } else { 0 };
+        for page in pages.start..pages.end + ends {
+            let sight = self.compare_steps(&mut viewer, tally)?;
+            let shown = (sight.shown == 1).then_some(&sight.row);
+            let what = format_args!("archive's own row {page}, listed and shown");
+            self.equal(what, &rows.get(page), &shown)?;
+        }
+        Ok(())
+    }
+
+    fn equal<T: PartialEq + fmt::Debug>(
+        &self,
+        what: impl fmt::Display,
+        ours: &T,
+        theirs: &T,
+    ) -> Result<(), String> {
+        let what = format_args!("viewer of {:?}, {what}", self.which);
+        equal(what, self.inputs, ours, theirs)
+    }
 }
 
 /// Lengths of tables for this many rows: exactly long enough, longer, one row
@@ -257,8 +372,8 @@ fn old_row(random: &mut Random) -> Row {
 }
 
 /// The inputs and both results, where they differ.
-fn equal<T: PartialEq + std::fmt::Debug>(
-    what: &str,
+fn equal<T: PartialEq + fmt::Debug>(
+    what: impl fmt::Display,
     inputs: Inputs,
     ours: &T,
     theirs: &T,
@@ -282,11 +397,44 @@ fn hex(bytes: &[u8]) -> String {
     bytes.iter().map(|byte| format!("{byte:02X}")).collect()
 }
 
-/// How often each answer and each kind of match occurred.
+/// How often each answer and each kind of match occurred, and what viewers of
+/// each of the three strings showed.
 #[derive(Default)]
 struct Tally {
     answers: [u64; 9],
     matches: [u64; MATCHES.len()],
+    viewers: [ViewerTally; 3],
+}
+
+/// What viewers of one string showed.
+#[derive(Default)]
+struct ViewerTally {
+    /// By answer.
+    openings: [u64; 8],
+    /// At the end, and with a row.
+    steps: [u64; 2],
+    /// Through some of the rows, and through all of them.
+    pagings: [u64; 2],
+}
+
+impl ViewerTally {
+    fn lines(&self, which: Which) -> Vec<(String, u64)> {
+        let answers = [0, which.unreadable(), second::answer::TOO_LONG];
+        let openings = answers.map(|answer| {
+            let count = self.openings[answer as usize];
+            (format!("{which:?}: opening {answer}"), count)
+        });
+        let [ends, rows] = self.steps;
+        let [parts, whole] = self.pagings;
+        let others = [
+            ("step with a row", rows),
+            ("step at the end", ends),
+            ("paging of all rows", whole),
+            ("paging of some rows", parts),
+        ];
+        let others = others.map(|(name, count)| (format!("{which:?}: {name}"), count));
+        openings.into_iter().chain(others).collect()
+    }
 }
 
 const MATCHES: [&str; 6] = [
@@ -311,12 +459,14 @@ impl Tally {
         let answers = answers.map(|(answer, &count)| (format!("answer {answer}"), count));
         let matches = MATCHES.iter().zip(self.matches);
         let matches = matches.map(|(name, count)| (format!("match by {name}"), count));
-        answers.chain(matches).collect()
+        let viewers = Which::ALL.into_iter().zip(&self.viewers);
+        let viewers = viewers.flat_map(|(which, tally)| tally.lines(which));
+        answers.chain(matches).chain(viewers).collect()
     }
 
     fn print(&self) {
         for (name, count) in self.lines() {
-            println!("{name:24}{count:10}");
+            println!("{name:32}{count:10}");
         }
     }
 
