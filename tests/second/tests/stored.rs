@@ -1,12 +1,13 @@
-//! The stored output of the programs `vectors`, `listed` and `witnessed`, line
-//! by line from this implementation.
+//! The stored output of the programs `vectors`, `listed`, `paged` and
+//! `witnessed`, line by line from this implementation.
 
+use second::examples::{J, THREE_ATTRIBUTES, THREE_SUBTREES, TWO_ENTRIES};
 use second::records::kind::{CN, DNS, SRV, URI};
 use second::text::{
     has_two_labels, is_domain, is_scheme, is_service, is_srv_subtree, lies_in, srv_id, uri_parts,
 };
 use second::tree::{dns_name, record, san, srv_name, uri_name, Node};
-use second::{answer, examples::J, judge, list, list_into, verdict, Row, Which};
+use second::{answer, judge, list, list_into, verdict, Row, Viewer, Which};
 use std::fs;
 
 /// A file beside the source of one of the programs.
@@ -202,6 +203,29 @@ fn nested(size: usize, tags: &[u8], before: &[u8], last: u8) -> Vec<u8> {
     bytes
 }
 
+/// One name in a string that is as long as may be, and in one a byte longer.
+fn long_strings() -> [(&'static str, Which, Vec<u8>); 6] {
+    let san = |size| nested(size, &[0x30], b"", 0x82);
+    let subject = |size| nested(size, &[0x30, 0x31, 0x30], b"\x06\x03\x55\x04\x03", 0x0C);
+    let constraints = |size| nested(size, &[0x30, 0xA1, 0x30], b"", 0x82);
+    [
+        ("SAN of 16384 bytes", Which::San, san(16384)),
+        ("SAN of 16385", Which::San, san(16385)),
+        ("subject of 4096", Which::Subject, subject(4096)),
+        ("subject of 4097", Which::Subject, subject(4097)),
+        (
+            "constraints of 16384",
+            Which::Constraints,
+            constraints(16384),
+        ),
+        (
+            "constraints of 16385",
+            Which::Constraints,
+            constraints(16385),
+        ),
+    ]
+}
+
 #[test]
 fn listed() {
     let mut lines: Vec<Vec<u8>> = SPELLED
@@ -222,34 +246,75 @@ fn listed() {
         let title = format!("{length}{}{unit}", forms[form]);
         lines.push(in_four(&title, Which::San, &one_name(length, form)));
     }
-    for (title, size) in [("SAN of 16384 bytes", 16384), ("SAN of 16385", 16385)] {
-        lines.push(in_four(
-            title,
-            Which::San,
-            &nested(size, &[0x30], b"", 0x82),
-        ));
-    }
-    for size in [4096, 4097] {
-        let bytes = nested(size, &[0x30, 0x31, 0x30], b"\x06\x03\x55\x04\x03", 0x0C);
-        lines.push(in_four(
-            &format!("subject of {size}"),
-            Which::Subject,
-            &bytes,
-        ));
-    }
-    for size in [16384, 16385] {
-        let bytes = nested(size, &[0x30, 0xA1, 0x30], b"", 0x82);
-        lines.push(in_four(
-            &format!("constraints of {size}"),
-            Which::Constraints,
-            &bytes,
-        ));
+    for (title, which, bytes) in long_strings() {
+        lines.push(in_four(title, which, &bytes));
     }
     for count in [512, 513, 600] {
         let bytes = [header(0x30, 2 * count, 3), [0x82, 0].repeat(count)].concat();
         lines.push(for_512(&format!("{count} entries"), &bytes));
     }
     stored("listed", &lines);
+}
+
+/// The strings that `paged` spells out.
+const PAGED: [(&str, Which, &[u8]); 12] = [
+    ("two entries", Which::San, &TWO_ENTRIES),
+    ("three attributes", Which::Subject, &THREE_ATTRIBUTES),
+    ("three subtrees", Which::Constraints, &THREE_SUBTREES),
+    ("empty names", Which::San, b"\x30\x04\x82\x00\x82\x00"),
+    ("30 00 as a SAN", Which::San, b"\x30\x00"),
+    ("30 00 as a subject", Which::Subject, b"\x30\x00"),
+    ("30 00 as constraints", Which::Constraints, b"\x30\x00"),
+    ("no SAN", Which::San, b""),
+    ("no subject", Which::Subject, b""),
+    ("no constraints", Which::Constraints, b""),
+    ("a byte after the SAN", Which::San, b"\x30\x02\x82\x00\x00"),
+    ("a subject as a SAN", Which::San, &THREE_ATTRIBUTES),
+];
+
+/// One step: a row and the position after it, or the end and where it is.
+fn step(viewer: &mut Viewer) -> String {
+    match viewer.step() {
+        Some(row) => format!("{} then {}", numbers(&row), viewer.position()),
+        None => format!("end {}", viewer.position()),
+    }
+}
+
+/// An opening's answer, and five steps from it.
+fn five_steps(title: &str, which: Which, bytes: &[u8]) -> Vec<u8> {
+    let (answer, mut viewer) = Viewer::open(bytes, which);
+    let steps = [(); 5].map(|()| step(&mut viewer)).join(", ");
+    format!("{title}: {answer}; {steps}").into_bytes()
+}
+
+/// The start of the row that is shown from each position up to two behind the
+/// string.
+fn every_position(title: &str, which: Which, bytes: &[u8]) -> Vec<u8> {
+    let last = bytes.len() + 2;
+    let starts = (0..=last).map(|at| match Viewer::at(bytes, which, at).step() {
+        Some(row) => row.start.to_string(),
+        None => "-".to_string(),
+    });
+    let starts: Vec<String> = starts.collect();
+    format!("{title}, from 0 to {last}: {}", starts.join(" ")).into_bytes()
+}
+
+#[test]
+fn paged() {
+    let spelled = PAGED.iter().flat_map(|&(title, which, bytes)| {
+        let paged = five_steps(title, which, bytes);
+        [paged, every_position(title, which, bytes)]
+    });
+    let long = long_strings();
+    let long = long
+        .iter()
+        .map(|(title, which, bytes)| five_steps(title, *which, bytes));
+    let far = [u32::MAX as usize, 1 << 63, usize::MAX].map(|at| {
+        let mut viewer = Viewer::at(&TWO_ENTRIES, Which::San, at);
+        format!("two entries from {at}: {}", step(&mut viewer)).into_bytes()
+    });
+    let lines: Vec<Vec<u8>> = spelled.chain(long).chain(far).collect();
+    stored("paged", &lines);
 }
 
 const ABC: &[u8] = b"\x30\x10\x31\x0E\x30\x0C\x06\x03\x55\x04\x03\x0C\x05a.b.c";
