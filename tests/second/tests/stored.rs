@@ -203,29 +203,6 @@ fn nested(size: usize, tags: &[u8], before: &[u8], last: u8) -> Vec<u8> {
     bytes
 }
 
-/// One name in a string that is as long as may be, and in one a byte longer.
-fn long_strings() -> [(&'static str, Which, Vec<u8>); 6] {
-    let san = |size| nested(size, &[0x30], b"", 0x82);
-    let subject = |size| nested(size, &[0x30, 0x31, 0x30], b"\x06\x03\x55\x04\x03", 0x0C);
-    let constraints = |size| nested(size, &[0x30, 0xA1, 0x30], b"", 0x82);
-    [
-        ("SAN of 16384 bytes", Which::San, san(16384)),
-        ("SAN of 16385", Which::San, san(16385)),
-        ("subject of 4096", Which::Subject, subject(4096)),
-        ("subject of 4097", Which::Subject, subject(4097)),
-        (
-            "constraints of 16384",
-            Which::Constraints,
-            constraints(16384),
-        ),
-        (
-            "constraints of 16385",
-            Which::Constraints,
-            constraints(16385),
-        ),
-    ]
-}
-
 #[test]
 fn listed() {
     let mut lines: Vec<Vec<u8>> = SPELLED
@@ -246,8 +223,28 @@ fn listed() {
         let title = format!("{length}{}{unit}", forms[form]);
         lines.push(in_four(&title, Which::San, &one_name(length, form)));
     }
-    for (title, which, bytes) in long_strings() {
-        lines.push(in_four(title, which, &bytes));
+    for (title, size) in [("SAN of 16384 bytes", 16384), ("SAN of 16385", 16385)] {
+        lines.push(in_four(
+            title,
+            Which::San,
+            &nested(size, &[0x30], b"", 0x82),
+        ));
+    }
+    for size in [4096, 4097] {
+        let bytes = nested(size, &[0x30, 0x31, 0x30], b"\x06\x03\x55\x04\x03", 0x0C);
+        lines.push(in_four(
+            &format!("subject of {size}"),
+            Which::Subject,
+            &bytes,
+        ));
+    }
+    for size in [16384, 16385] {
+        let bytes = nested(size, &[0x30, 0xA1, 0x30], b"", 0x82);
+        lines.push(in_four(
+            &format!("constraints of {size}"),
+            Which::Constraints,
+            &bytes,
+        ));
     }
     for count in [512, 513, 600] {
         let bytes = [header(0x30, 2 * count, 3), [0x82, 0].repeat(count)].concat();
@@ -305,15 +302,11 @@ fn paged() {
         let paged = five_steps(title, which, bytes);
         [paged, every_position(title, which, bytes)]
     });
-    let long = long_strings();
-    let long = long
-        .iter()
-        .map(|(title, which, bytes)| five_steps(title, *which, bytes));
     let far = [u32::MAX as usize, 1 << 63, usize::MAX].map(|at| {
         let mut viewer = Viewer::at(&TWO_ENTRIES, Which::San, at);
         format!("two entries from {at}: {}", step(&mut viewer)).into_bytes()
     });
-    let lines: Vec<Vec<u8>> = spelled.chain(long).chain(far).collect();
+    let lines: Vec<Vec<u8>> = spelled.chain(far).collect();
     stored("paged", &lines);
 }
 
