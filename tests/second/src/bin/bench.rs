@@ -1,6 +1,6 @@
 //! Measures the time of one verdict through the archive and in this crate, on
-//! the same inputs in one run. A measurement and not a test: it fails only
-//! where the two answers differ.
+//! the same inputs in one run, and of paging through a SAN. A measurement and
+//! not a test: it fails only where the two answers differ.
 //!
 //! One verdict is one call: `beckethand_answer` for the archive, `verdict`,
 //! with all five numbers, for this crate.
@@ -10,6 +10,7 @@ use second::generate::Case;
 use second::longest;
 use second::records::kind::{DNS, SRV, URI};
 use second::tree::*;
+use second::{Viewer, Which};
 use std::hint::black_box;
 use std::time::{Duration, Instant};
 
@@ -46,6 +47,33 @@ fn main() {
             line(&format!("{names:5} {references:5} {size} bytes"), &case.1);
         }
     }
+    println!("\npaging through a SAN of dNSNames to its end, ns in all");
+    heading();
+    for names in [2, 40, 400] {
+        let san = sample(names, 1, Hit::Never, Form::Dns).san;
+        let theirs = || {
+            page_through(|at| {
+                let sight = archive::view(black_box(&san), 0, at);
+                (sight.shown == 1).then_some(sight.at)
+            })
+        };
+        let ours = || {
+            page_through(|at| {
+                let mut viewer = Viewer::at(black_box(&san), Which::San, at);
+                viewer.step().map(|_| viewer.position())
+            })
+        };
+        both(&format!("{names:5}"), theirs, ours);
+    }
+}
+
+/// The rows that are shown step by step from position 0.
+fn page_through(step: impl Fn(usize) -> Option<usize>) -> u32 {
+    let (mut rows, mut at) = (0, 0);
+    while let Some(next) = step(at) {
+        (rows, at) = (rows + 1, next);
+    }
+    rows
 }
 
 /// Which pair of a sample matches: the first reference and the first name, the
@@ -173,7 +201,7 @@ fn heading() {
     );
 }
 
-/// Measures one case both ways and prints a line of the table.
+/// Measures the verdict of one case.
 fn line(what: &str, case: &Case) {
     let theirs = || archive::answer(black_box(inputs(case)));
     let ours = || {
@@ -185,6 +213,11 @@ fn line(what: &str, case: &Case) {
         } = black_box(inputs(case));
         black_box(second::verdict(san, subject, constraints, references)).answer
     };
+    both(what, theirs, ours);
+}
+
+/// Measures the same both ways and prints a line of the table.
+fn both(what: &str, theirs: impl Fn() -> u32, ours: impl Fn() -> u32) {
     assert_eq!(theirs(), ours(), "{what}: different answers");
     let (theirs, ours) = best(theirs, ours);
     println!("{what:24}{theirs:12.0}{ours:12.0}{:8.2}", theirs / ours);
