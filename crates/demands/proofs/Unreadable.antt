@@ -13,6 +13,8 @@ use Rattle.rules.specs.Names
 use Rattle.rules.specs.San
 use Rattle.rules.specs.Constraints
 use Rattle.rules.specs.Verdict.{numbers}
+use Rattle.rules.specs.Listing.{rowsSeen}
+use Rattle.rules.specs.Viewer.{openingOf}
 use Rattle.rules.specs.Seen.{unreadable, listed, sanInput, subjectInput, constraintsInput, Sees}
 use Rattle.rules.proofs.Text.{hex}
 use Rattle.rules.proofs.Marked.{j, jNames}
@@ -20,7 +22,7 @@ use Rattle.reading.specs.Reader
 use Rattle.reading.specs.Strings
 use Rattle.reading.specs.Views
 use Rattle.reading.specs.Views.{seenSan, seenSubject, seenConstraints, sees-san, sees-subject, sees-constraints}
-use Rattle.reading.specs.Calls.{Inputs, inputs, verdictOn}
+use Rattle.reading.specs.Calls.{Inputs, inputs, verdictOn, refusalOf, seenRows, openingOn}
 use Rattle.demands.specs.Statements.{Unreadable}
 use Rattle.demands.proofs.Endings.{fits-not-long}
 use Rattle.demands.proofs.Demands.{demand1}
@@ -67,6 +69,16 @@ subject-empty = sees-subject []
 pub subject-j : Sees subjectInput j (listed jNames)
 unfolding seenSubject Views.seenOf Strings.readSubject Strings.readSets Strings.readSet Strings.readAttribute Strings.numberFrom Strings.flat Reader.readElement Reader.readLength Reader.contentAfter Reader.readItems San.goodValue San.sealed
 subject-j = sees-subject j
+
+-- ---- 3/13: how a viewer opens them, as the SAN, the subject and the constraints; an absent string is opened
+
+pub openings-no-element : (openingOn 0 noElement ≡ 3) × (openingOn 1 noElement ≡ 0) × (openingOn 2 noElement ≡ 5)
+unfolding refusalOf seenRows rowsSeen openingOf seenSan seenSubject seenConstraints Views.seenOf Strings.readSan Strings.readSubject Strings.readSets Strings.numberFrom Strings.flat Strings.readConstraints Strings.readSides Reader.readElement Reader.readLength Reader.contentAfter Reader.readItems
+openings-no-element = (refl, refl, refl)
+
+pub openings-empty : (openingOn 0 [] ≡ 0) × (openingOn 1 [] ≡ 4) × (openingOn 2 [] ≡ 0)
+unfolding refusalOf seenRows rowsSeen openingOf seenSan seenSubject seenConstraints Views.seenOf Strings.readSubject Strings.readSets Reader.readElement
+openings-empty = (refl, refl, refl)
 
 -- ---- the answers, whatever our records are, if they are good
 

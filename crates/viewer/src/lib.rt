@@ -9,6 +9,7 @@ ghost use mathlib.Core.Path.{_≡_};
 ghost use Rattle.reading.specs.Calls.{openingOn, viewOn};
 ghost use Rattle.viewer.specs.Viewers.{openedBy, steppedBy};
 
+// "a viewer that holds the certificate bytes and its position, for each of the three strings"
 pub struct Viewer<'a> {
     pub der: &'a [u8],
     pub which: usize,
