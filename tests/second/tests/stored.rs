@@ -150,19 +150,30 @@ fn for_512(title: &str, bytes: &[u8]) -> Vec<u8> {
     .into_bytes()
 }
 
-/// The strings that `listed` spells out.
-const SPELLED: [(&str, Which, &[u8]); 19] = [
+/// A title, and a string that a program spells out.
+type Spelled = (&'static str, Which, &'static [u8]);
+
+/// Document 01's strings, in `listed`.
+const DESK: [Spelled; 5] = [
     ("S", Which::San, b"\x30\x05\x82\x03a.b"),
     ("J", Which::Subject, b"\x30\x0E\x31\x0C\x30\x0A\x06\x03\x55\x04\x03\x0C\x03a.b"),
     ("SRVName", Which::San, b"\x30\x14\xA0\x12\x06\x08\x2B\x06\x01\x05\x05\x07\x08\x07\xA0\x06\x16\x04_m.b"),
     ("constraints", Which::Constraints, b"\x30\x16\xA0\x14\x30\x12\xA0\x10\x06\x08\x2B\x06\x01\x05\x05\x07\x08\x07\xA0\x04\x16\x02_m"),
     ("long form of a short length", Which::San, b"\x30\x81\x05\x82\x03a.b"),
+];
+
+/// Strings without a name, in `listed` and in `paged`.
+const WITHOUT_NAMES: [Spelled; 6] = [
     ("30 00 as a SAN", Which::San, b"\x30\x00"),
     ("30 00 as a subject", Which::Subject, b"\x30\x00"),
     ("30 00 as constraints", Which::Constraints, b"\x30\x00"),
     ("no SAN", Which::San, b""),
     ("no subject", Which::Subject, b""),
     ("no constraints", Which::Constraints, b""),
+];
+
+/// More names than one, and faults, in `listed`.
+const SEVERAL: [Spelled; 8] = [
     ("three entries", Which::San, b"\x30\x09\x82\x01a\x86\x00\x87\x02\xFF\xFF"),
     ("four entries", Which::San, b"\x30\x08\x82\x00\x82\x00\x82\x00\x82\x00"),
     ("five entries", Which::San, b"\x30\x0A\x82\x00\x82\x00\x82\x00\x82\x00\x82\x00"),
@@ -205,8 +216,8 @@ fn nested(size: usize, tags: &[u8], before: &[u8], last: u8) -> Vec<u8> {
 
 #[test]
 fn listed() {
-    let mut lines: Vec<Vec<u8>> = SPELLED
-        .iter()
+    let spelled = DESK.iter().chain(&WITHOUT_NAMES).chain(&SEVERAL);
+    let mut lines: Vec<Vec<u8>> = spelled
         .map(|(title, which, bytes)| in_four(title, *which, bytes))
         .collect();
     let forms = ["", " in one", " in two", " in three"];
@@ -253,18 +264,16 @@ fn listed() {
     stored("listed", &lines);
 }
 
-/// The strings that `paged` spells out.
-const PAGED: [(&str, Which, &[u8]); 12] = [
+/// More names than one, in `paged`.
+const PAGED: [Spelled; 4] = [
     ("two entries", Which::San, &TWO_ENTRIES),
     ("three attributes", Which::Subject, &THREE_ATTRIBUTES),
     ("three subtrees", Which::Constraints, &THREE_SUBTREES),
     ("empty names", Which::San, b"\x30\x04\x82\x00\x82\x00"),
-    ("30 00 as a SAN", Which::San, b"\x30\x00"),
-    ("30 00 as a subject", Which::Subject, b"\x30\x00"),
-    ("30 00 as constraints", Which::Constraints, b"\x30\x00"),
-    ("no SAN", Which::San, b""),
-    ("no subject", Which::Subject, b""),
-    ("no constraints", Which::Constraints, b""),
+];
+
+/// Strings that are refused, in `paged`.
+const REFUSED: [Spelled; 2] = [
     ("a byte after the SAN", Which::San, b"\x30\x02\x82\x00\x00"),
     ("a subject as a SAN", Which::San, &THREE_ATTRIBUTES),
 ];
@@ -298,7 +307,8 @@ fn every_position(title: &str, which: Which, bytes: &[u8]) -> Vec<u8> {
 
 #[test]
 fn paged() {
-    let spelled = PAGED.iter().flat_map(|&(title, which, bytes)| {
+    let spelled = PAGED.iter().chain(&WITHOUT_NAMES).chain(&REFUSED);
+    let spelled = spelled.flat_map(|&(title, which, bytes)| {
         let paged = five_steps(title, which, bytes);
         [paged, every_position(title, which, bytes)]
     });
