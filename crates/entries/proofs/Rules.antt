@@ -1,25 +1,25 @@
 -- What the tests of a GeneralName's own rules return, by their own tests.
-use Prim.Native.Nat.{ℕ, zero, suc, _+_, _-_, _/_, _%_, _≤_, _<_}
+use Prim.Native.Nat.{ℕ, _-_, _≤_}
 use mathlib.Core.Path.{_≡_, refl, sym, ap, _∙_}
 use mathlib.Core.Bool.{Bool, true, false, cond, not, _&&_, _||_}
-use mathlib.Core.Option.{Option, none, some}
+use mathlib.Core.Option.{some}
 use mathlib.Core.List.{List, [], _∷_}
 use native.Mathlib.Omega.{arith}
-use native.Mathlib.Numerals.{add-one}
-use lib.ListN.{length, getD}
-use lib.Dec.{T, eqb, ltb}
-use lib.Seq.{slice, slice-empty, slice-cons, length-slice}
-use borrow.Author.Tests.{eq-eqb, ne-eqb, lt-ltb, le-ltb, ltb-true, ltb-false}
+use lib.ListN.{length, take, drop}
+use lib.Dec.{eqb}
+use lib.Seq.{slice, slice-empty, slice-cons}
+use borrow.Author.Tests.{ne-eqb}
 use denote.Enum.Declared
 use types.Run
-use Rattle.rules.specs.Bytes.{some?, same, ascii}
+use Rattle.rules.specs.Bytes.{same, ascii}
 use Rattle.rules.specs.San.{GeneralName, plain, other, srvOid, textTag, sealedTag, sealed, goodOid, goodValue, goodSrvName, goodName, nameKind}
-use Rattle.reading.specs.Reader.{then, when, isSome, Raw, raw}
+use Rattle.reading.specs.Reader.{when, isSome, Raw, raw}
 use Rattle.reading.specs.Strings.{readOther, nameOf, readName}
 use Rattle.reading.specs.Answers.{then-some, is-true}
 use Rattle.reading.specs.Codecs.{otherC}
+use Rattle.der.specs.Reads.{part-is}
 use Rattle.entries.specs.Entries.{textTagOf, textOf, otherAt, nameAt, asciiAt, goodSrvAt, goodNameAt}
-use Rattle.entries.specs.Texts.{TextAt, NamedAt, named, not-named}
+use Rattle.entries.specs.Texts.{NamedAt, named, not-named}
 use Rattle.entries.specs.declared.Name.{Name}
 use Rattle.entries.specs.declared.Name.the-variants.{Is, Malformed}
 use Rattle.entries.proofs.Name as N
@@ -27,46 +27,9 @@ use Rattle.entries.proofs.Shapes.{shape-other}
 
 -- ---- every byte below 128
 
--- so many bytes before `at` are not below 128, and what is left is as it is
-unfoldable pub Counted : List ℕ → ℕ → ℕ → ℕ → ℕ → Type 0
-Counted s start end at high = asciiAt s start end ≡ (eqb high 0 && asciiAt s at end)
-
-pub counted-begin : (s : List ℕ) (start end : ℕ) → Counted s start end start 0
-unfolding Counted
-counted-begin s start end = refl
-
--- a byte more
-counted-byte : (high b k : ℕ) → k ≡ b / 128 → eqb (high + k) 0 ≡ (eqb high 0 && ltb b 128)
-counted-byte zero b k e = go (ltb b 128) refl
-  where
-    go : (t : Bool) → ltb b 128 ≡ t → eqb (zero + k) 0 ≡ (eqb zero 0 && ltb b 128)
-    go true f = rw f (eq-eqb (0 + k) 0 (omega (arith, ltb-true b 128 f)))
-    go false f = rw f (ne-eqb (0 + k) 0 (λ z. omega (arith, ltb-false b 128 f)))
-counted-byte (suc high) b k e = rw (ne-eqb (suc high + k) 0 (λ z. omega arith), ne-eqb (suc high) 0 (λ z. omega arith))
-
-module _ (s : List ℕ) (start end at high : ℕ) (fits : end ≤ length s) (inv : Counted s start end at high) where
-  pub counted-next : at < end → (k : ℕ) → k ≡ getD s at 0 / 128 → Counted s start end (at + 1) (high + k)
-  unfolding Counted asciiAt ascii
-  counted-next h k e =
-      inv ∙ rw (slice-cons at end s 0 h fits, counted-byte high (getD s at 0) k e, add-one) (go (eqb high 0) (ltb (getD s at 0) 128) _)
-    where
-      go : (a b c : Bool) → (a && (b && c)) ≡ ((a && b) && c)
-      go true b c = refl
-      go false b c = refl
-
-  pub counted-end : at ≤ end → end ≤ at → eqb high 0 ≡ asciiAt s start end
-  unfolding Counted asciiAt ascii
-  counted-end h k =
-      let e : at ≡ end = omega arith in
-      sym (inv ∙ rw (e, slice-empty end s) (go (eqb high 0)))
-    where
-      go : (a : Bool) → (a && true) ≡ a
-      go true = refl
-      go false = refl
-
-  -- so few that their number fits
-  pub counted-more : high ≤ at → (k b : ℕ) → k ≡ b / 128 → b < 256 → high + k ≤ at + 1
-  counted-more h k b e l = omega arith
+pub ascii-of : (s : List ℕ) (start end : ℕ) (r : Bool) → start ≤ end → r ≡ ascii (take (end - start) (drop start s)) → r ≡ asciiAt s start end
+unfolding asciiAt
+ascii-of s start end r h e = e ∙ ap ascii (part-is s start end h)
 
 -- ---- tags
 

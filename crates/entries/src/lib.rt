@@ -202,19 +202,13 @@ pub fn subtree_shape(s: &[u8], tag: u8, start: usize, end: usize) -> Name
     name_shape(s, form, from, end)
 }
 
-// "every byte below 128": the bytes that are not are counted, with no branch on a byte. The compiler takes two bytes to a vector.
+// "every byte below 128"
 fn is_ascii(s: &[u8], start: usize, end: usize) -> bool
     requires { ⌜ start ≤ end ⌝ }
     requires { ⌜ end ≤ length (now s) ⌝ }
     ensures { λ r. ⌜ r ≡ asciiAt (now (s .entry)) start end ⌝ }
 {
-    let mut high: usize = 0;
-    let mut at = start;
-    while at < end {
-        high += wide(s[at] / 128);
-        at += 1;
-    }
-    high == 0
+    octets::ascii(&s[start..end])
 }
 
 // "81, 82, 86"

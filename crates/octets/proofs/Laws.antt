@@ -1,12 +1,13 @@
 -- The laws that the functions' proofs search.
-use Prim.Native.Nat.{ℕ, _+_, _<_, _≤_}
-use mathlib.Core.Path.{_≡_, sym, _∙_}
+use Prim.Native.Nat.{ℕ, _+_, _/_, _<_, _≤_}
+use mathlib.Core.Path.{_≡_, refl, sym, _∙_}
 use mathlib.Core.List.{List}
 use mathlib.Core.Bool.{Bool, true, false, not}
+use native.Mathlib.Omega.{arith}
 use lib.ListN.{length, getD}
-use lib.Dec.{ltb}
-use borrow.Author.Tests.{eq-eqb, ne-eqb, not-true, not-false}
-use Rattle.rules.specs.Bytes.{all, any, before}
+use lib.Dec.{eqb, ltb}
+use borrow.Author.Tests.{eq-eqb, ne-eqb, ltb-true, ltb-false, not-true, not-false}
+use Rattle.rules.specs.Bytes.{all, any, ascii, before}
 use Rattle.rules.specs.Names.{is, digit}
 use Rattle.octets.proofs.Classes
 use Rattle.octets.proofs.Compare
@@ -54,6 +55,30 @@ module _ (s : List ℕ) (i : ℕ) (inv : Every.EveryLeft digit (all digit s) s i
   pub digits-end : length s ≤ i → true ≡ all digit s
   digits-end h = Every.every-end digit _ s i inv h
 
+-- ---- ascii
+
+abbrev pub below128 : ℕ → Bool
+below128 b = ltb b 128
+
+pub ascii-begin : (s : List ℕ) → Every.AddedUp below128 s 0 0
+ascii-begin s = Every.added-begin below128 s
+
+-- what is added for a byte
+high-bit : (b k : ℕ) → k ≡ b / 128 → eqb k 0 ≡ below128 b
+high-bit b k e = go (ltb b 128) refl
+  where
+    go : (t : Bool) → ltb b 128 ≡ t → eqb k 0 ≡ ltb b 128
+    go true f = rw f (eq-eqb k 0 (omega (arith, ltb-true b 128 f)))
+    go false f = rw f (ne-eqb k 0 (λ z. omega (arith, ltb-false b 128 f)))
+
+module _ (s : List ℕ) (i high : ℕ) (inv : Every.AddedUp below128 s i high) where
+  pub ascii-next : i < length s → (k : ℕ) → k ≡ getD s i 0 / 128 → Every.AddedUp below128 s (i + 1) (high + k)
+  ascii-next h k e = Every.added-next below128 s i high inv h k (high-bit (getD s i 0) k e)
+
+  pub ascii-end : length s ≤ i → eqb high 0 ≡ ascii s
+  unfolding ascii
+  ascii-end h = Every.added-end below128 s i high inv h
+
 pub ruleset laws = (
   Classes.lower-under,
   Classes.lower-over,
@@ -88,5 +113,8 @@ pub ruleset laws = (
   digits-next,
   digits-fail,
   digits-end,
+  ascii-begin,
+  ascii-next,
+  ascii-end,
   Parts.rest-is,
 )

@@ -5,6 +5,7 @@ ghost use lib.ListN.{length, drop};
 ghost use Rattle.rules.specs.Bytes.{all, any, same, before};
 ghost use Rattle.rules.specs.Names.{is, letter, digit, letterDigitHyphen, schemeByte, sameText};
 ghost use Rattle.rules.specs.Names as names;
+ghost use Rattle.rules.specs.Bytes as bytes;
 
 // A byte as a number, with the bound that a byte has.
 pub fn wide(x: u8) -> usize
@@ -151,6 +152,19 @@ pub fn digits(s: &[u8]) -> bool
         i += 1;
     }
     true
+}
+
+// Whether every byte is below 128: those that are not are counted, with no branch on a byte. The compiler takes two bytes to a vector.
+pub fn ascii(s: &[u8]) -> bool
+    ensures { λ r. ⌜ r ≡ bytes.ascii (now (s .entry)) ⌝ }
+{
+    let mut high: usize = 0;
+    let mut i = 0;
+    while i < s.len() {
+        high += wide(s[i] / 128);
+        i += 1;
+    }
+    high == 0
 }
 
 // The bytes from a place on.

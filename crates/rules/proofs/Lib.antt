@@ -1,10 +1,12 @@
--- The examples of document 01, about the definitions of specs/ themselves: `marked` is P1 to P16, `desk` the others.
+-- The examples of document 01, about the definitions of specs/ themselves: `marked` is P1 to P16, `desk` the others;
+-- `viewer` and `writers` are those of requests 3/13 and 4/13.
 pub mod Text
 pub mod Holds
 pub mod Test
 pub mod Marked
 pub mod Certificates
 pub mod Desk
+pub mod Writers
 -- The names of document 01 as it writes them: parts joined to a text. `Joined` states them, the rest is their proof.
 pub mod Cases
 pub mod Cut

@@ -12,3 +12,4 @@ pub mod Matching
 pub mod Verdict
 pub mod Listing
 pub mod Viewer
+pub mod Writing

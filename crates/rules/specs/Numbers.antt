@@ -27,13 +27,27 @@ recordsUnreadable = 6
 abbrev pub inputTooLong : ℕ
 inputTooLong = 7
 
--- the 0 of the listing and of the record reader
+-- the 0 of the listing, of the record reader and of the writers
 abbrev pub accepted : ℕ
 accepted = 0
 
 -- listing only
 abbrev pub tableTooShort : ℕ
 tableTooShort = 8
+
+-- 4/13: "an empty list (21)", "a text that isn't a name of its kind .. (22)", "a result over the .. limit (23)", "a buffer shorter
+-- than the result (24)"
+abbrev pub emptyList : ℕ
+emptyList = 21
+
+abbrev pub notAName : ℕ
+notAName = 22
+
+abbrev pub resultTooLong : ℕ
+resultTooLong = 23
+
+abbrev pub bufferTooShort : ℕ
+bufferTooShort = 24
 
 -- "Longest inputs, in bytes: SAN 16,384; subject 4,096; constraints 16,384; references 5,120. One byte more is answer 7."
 abbrev pub sanLimit : ℕ

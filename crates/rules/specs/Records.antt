@@ -15,6 +15,9 @@ pub record Reference : Type 0 where
   pub service : List ℕ
   pub domain : List ℕ
 
+abbrev pub reference : ℕ → List ℕ → List ℕ → Reference
+reference kind service domain = record { kind = kind; service = service; domain = domain }
+
 -- "Byte 0 kind .. Byte 2 service length, byte 3 domain length. Bytes 4 to 66 service, 67 to 319 domain"
 unfoldable pub referenceOf : List ℕ → Reference
 referenceOf b = record {

@@ -23,6 +23,15 @@ pub const ACCEPTED: usize = 0;
 
 pub const TABLE_TOO_SHORT: usize = 8;
 
+// The refusals of the writers.
+pub const EMPTY_LIST: usize = 21;
+
+pub const NOT_A_NAME: usize = 22;
+
+pub const RESULT_TOO_LONG: usize = 23;
+
+pub const BUFFER_TOO_SHORT: usize = 24;
+
 // The longest inputs, in bytes.
 pub const SAN_LIMIT: usize = 16384;
 
@@ -96,6 +105,13 @@ pub struct ViewNumbers {
     pub length: usize,
     pub group: usize,
     pub at: usize,
+}
+
+// What a writer answers: the answer, and the length of what is written.
+#[repr(C)]
+pub struct Written {
+    pub answer: usize,
+    pub length: usize,
 }
 
 // A verdict's five numbers.
