@@ -12,3 +12,4 @@ pub mod OneReading
 pub mod Views
 pub mod Calls
 pub mod Laid
+pub mod Written

@@ -1,59 +1,40 @@
 -- The laws that the functions' proofs search: one for each return and each step of a loop.
 use Prim.Native.Nat.{ℕ, zero, suc, _+_, _-_, _*_, _/_, _%_, _≤_, _<_}
 use mathlib.Core.Path.{_≡_, refl, sym, ap, _∙_}
-use mathlib.Core.Bool.{Bool, true, false, not, cond, _&&_, _||_, and-false, false≢true}
-use mathlib.Core.List.{List, [], _∷_}
+use mathlib.Core.Bool.{Bool, true, false, not, _&&_, false≢true}
+use mathlib.Core.List.{List, []}
 use native.Mathlib.Omega.{arith}
-use native.Mathlib.Nat.{zero-add, add-zero, add-sub-cancel-left}
-use native.Mathlib.Numerals.{add-one}
-use lib.ListN.{length, getD, take, drop, length-drop, length-take, drop-of-length-le}
-use lib.Seq.{drop-cons, drop-drop, length-take-le}
-use lib.Dec.{T, eqb, leb, ltb}
+use native.Mathlib.Nat.{add-zero, add-sub-cancel-left}
+use lib.ListN.{length, getD, take, drop, length-drop, length-take}
+use lib.Seq.{drop-drop}
+use lib.Dec.{eqb, leb}
 use borrow.Author.Tests.{leb-true, eq-eqb, ne-eqb, le-leb, lt-leb, lt-ltb, le-ltb, not-true, not-false}
+use Rattle.octets.proofs.Cases.{none-is, some-is}
+use Rattle.octets.proofs.Every.{AddedUp, added-begin, added-next, added-end}
 use Rattle.octets.proofs.Parts.{rest-is}
 use Rattle.names.proofs.Labels.{two-labels}
-use Rattle.rules.specs.Bytes.{part, some?, all, any}
+use Rattle.rules.specs.Bytes.{part, all, any}
 use Rattle.rules.specs.Numbers.{recordSize, serviceLengthAt, domainLengthAt, serviceAt, serviceSize, domainAt, domainSize, recordsLimit}
 use Rattle.rules.specs.Names.{is, dot, service, scheme, domain}
-use Rattle.rules.specs.Records.{referenceOf, filled, goodService, goodReference, goodRecord, split, recordsOf, goodRecords, noRecord, shown}
+use Rattle.rules.specs.Records.{Reference, reference, referenceOf, filled, goodService, goodReference, goodRecord, split, recordsOf, goodRecords, noRecord, shown}
 use Rattle.rules.specs.declared.Shown.{Shown}
 use Rattle.records.specs.Small.{SmallShown}
-use Rattle.records.proofs.Split.{count-is, record-at, shown-past, shown-at, showing, byte-at}
+use Rattle.records.proofs.Split.{count-is, record-at, shown-past, shown-at, byte-at}
 
 -- ---- all_zero
 
 abbrev pub zero? : ℕ → Bool
 zero? b = eqb b 0
 
--- the bytes before i add up to sum, and what is left is as it is
-unfoldable pub Summed : List ℕ → ℕ → ℕ → Type 0
-Summed s i sum = all zero? s ≡ (eqb sum 0 && all zero? (drop i s))
+pub sum-begin : (s : List ℕ) → AddedUp zero? s 0 0
+sum-begin s = added-begin zero? s
 
-pub sum-begin : (s : List ℕ) → Summed s 0 0
-unfolding Summed
-sum-begin s = refl
-
--- a byte more
-sum-byte : (sum b : ℕ) → eqb (sum + b) 0 ≡ (eqb sum 0 && eqb b 0)
-sum-byte zero b = rw zero-add
-sum-byte (suc sum) b = rw (ne-eqb (suc sum + b) 0 (λ z. omega arith), ne-eqb (suc sum) 0 (λ z. omega arith))
-
-module _ (s : List ℕ) (i sum : ℕ) (inv : Summed s i sum) where
-  pub sum-next : i < length s → (b : ℕ) → b ≡ getD s i 0 → Summed s (i + 1) (sum + b)
-  unfolding Summed
-  sum-next h b e = inv ∙ rw (drop-cons s i 0 h, ← e, sum-byte sum b, add-one) (go (eqb sum 0) (eqb b 0) _)
-    where
-      go : (x y z : Bool) → (x && (y && z)) ≡ ((x && y) && z)
-      go true y z = refl
-      go false y z = refl
+module _ (s : List ℕ) (i sum : ℕ) (inv : AddedUp zero? s i sum) where
+  pub sum-next : i < length s → (b : ℕ) → b ≡ getD s i 0 → AddedUp zero? s (i + 1) (sum + b)
+  sum-next h b e = added-next zero? s i sum inv h b (ap zero? e)
 
   pub sum-end : length s ≤ i → eqb sum 0 ≡ all zero? s
-  unfolding Summed
-  sum-end h = sym (inv ∙ rw (drop-of-length-le s h) (go (eqb sum 0)))
-    where
-      go : (x : Bool) → (x && true) ≡ x
-      go true = refl
-      go false = refl
+  sum-end h = added-end zero? s i sum inv h
 
 -- no part is longer than its whole
 pub rest-short : (s : List ℕ) (n : ℕ) → length s ≤ recordSize → length (take (length s - n) (drop n s)) ≤ recordSize
@@ -110,6 +91,22 @@ module _ (kind : ℕ) (s : List ℕ) where
   unfolding goodService
   service-none a b c d = simp (ne-eqb kind 1 a, ne-eqb kind 4 b, ne-eqb kind 2 c, ne-eqb kind 3 d)
 
+-- ---- good_reference
+
+module _ (r : Reference) (t : Bool) (t-is : t ≡ goodService (r .kind) (r .service)) where
+  pub reference-service : not t ≡ true → false ≡ goodReference r
+  unfolding goodReference
+  reference-service h = simp (← t-is, not-true t h)
+
+  module _ (h : not t ≡ false) (u : Bool) (u-is : u ≡ domain (r .domain)) where
+    pub reference-domain : not u ≡ true → false ≡ goodReference r
+    unfolding goodReference
+    reference-domain k = simp (← t-is, not-false t h, ← u-is, not-true u k)
+
+    pub reference-labels : not u ≡ false → (g : Bool) → g ≡ any (is dot) (r .domain) → g ≡ goodReference r
+    unfolding goodReference
+    reference-labels k g g-is = g-is ∙ simp (← t-is, not-false t h, ← u-is, not-false u k, two-labels)
+
 -- ---- good_record
 
 module _ (b : List ℕ) where
@@ -127,39 +124,15 @@ module _ (b : List ℕ) where
       unfolding goodRecord part
       record-domain-fill d e = simp (eq-eqb (getD b 1 0) 0 zero1, ← n-is, ← m-is, ← f-is, not-false f d, ← g-is, not-true g e)
 
-      module _ (d : not f ≡ false) (e : not g ≡ false) (t : Bool) (t-is : t ≡ goodService (getD b 0 0) (take (serviceAt + n - serviceAt) (drop serviceAt b))) where
-        service-is : goodService (getD b 0 0) (take n (drop serviceAt b)) ≡ t
-        service-is = sym (rw (add-sub-cancel-left) at t-is)
-
-        pub record-service : not t ≡ true → false ≡ goodRecord b
-        unfolding goodRecord part goodReference referenceOf
-        record-service h =
-            simp (eq-eqb (getD b 1 0) 0 zero1, ← n-is, ← m-is, ← f-is, not-false f d, ← g-is, not-false g e, service-is, not-true t h)
-
-        module _ (h : not t ≡ false) (u : Bool) (u-is : u ≡ domain (take (domainAt + m - domainAt) (drop domainAt b))) where
-          domain-is : domain (take m (drop domainAt b)) ≡ u
-          domain-is = sym (rw (add-sub-cancel-left) at u-is)
-
-          pub record-domain : not u ≡ true → false ≡ goodRecord b
-          unfolding goodRecord part goodReference referenceOf
-          record-domain k =
-              simp (eq-eqb (getD b 1 0) 0 zero1, ← n-is, ← m-is, ← f-is, not-false f d, ← g-is, not-false g e, service-is, not-false t h, domain-is, not-true u k)
-
-          pub record-labels : not u ≡ false → (r : Bool) → r ≡ any (is dot) (take (domainAt + m - domainAt) (drop domainAt b)) → r ≡ goodRecord b
-          unfolding goodRecord part goodReference referenceOf
-          record-labels k r r-is =
-              r-is ∙ rw add-sub-cancel-left
-              (simp (eq-eqb (getD b 1 0) 0 zero1, ← n-is, ← m-is, ← f-is, not-false f d, ← g-is, not-false g e, service-is, not-false t h, domain-is, not-false u k, two-labels))
+      -- what is left of the judgement is that of the reference
+      pub record-reference : not f ≡ false → not g ≡ false → (r : Bool)
+          → r ≡ goodReference (reference (getD b 0 0) (take (serviceAt + n - serviceAt) (drop serviceAt b)) (take (domainAt + m - domainAt) (drop domainAt b)))
+          → r ≡ goodRecord b
+      unfolding goodRecord part referenceOf
+      record-reference d e r r-is =
+          r-is ∙ simp (add-sub-cancel-left, eq-eqb (getD b 1 0) 0 zero1, ← n-is, ← m-is, ← f-is, not-false f d, ← g-is, not-false g e)
 
 -- ---- good_records
-
-none-is : (b : List ℕ) → length b ≡ 0 → some? b ≡ false
-none-is [] h = refl
-none-is (x ∷ b) h = absurd (omega arith)
-
-some-is : (b : List ℕ) → (length b ≡ 0 → ⊥) → some? b ≡ true
-some-is [] h = absurd (h refl)
-some-is (x ∷ b) h = refl
 
 pub records-none : (b : List ℕ) → length b ≡ 0 → false ≡ goodRecords b
 unfolding goodRecords
@@ -270,12 +243,13 @@ pub ruleset laws = (
   service-srv,
   service-uri,
   service-none,
+  reference-service,
+  reference-domain,
+  reference-labels,
   record-byte1,
   record-service-fill,
   record-domain-fill,
-  record-service,
-  record-domain,
-  record-labels,
+  record-reference,
   records-none,
   records-uneven,
   left-begin,

@@ -23,6 +23,7 @@ ghost use lib.Dec.{eqb};
 ghost use Rattle.rules.specs.Bytes.{all};
 ghost use Rattle.rules.specs.Numbers.{recordSize};
 ghost use Rattle.rules.specs.Records as records;
+ghost use Rattle.rules.specs.Records.{reference};
 ghost use Rattle.records.specs.Small.{SmallShown};
 
 // Whether every byte is zero: they are added up, with no branch on a byte. The compiler makes no vectors of this loop.
@@ -69,7 +70,22 @@ fn good_service(kind: u8, s: &[u8]) -> bool
     false
 }
 
-// Whether the 320 bytes of one record are good. "a reference record whose domain has one label is refused with 6"
+// "The domain is as defined below", and "a reference record whose domain has one label is refused with 6": two labels have a dot.
+pub fn good_reference(kind: u8, service: &[u8], domain: &[u8]) -> bool
+    ensures { λ r. ⌜ r ≡ records.goodReference (reference kind (now (service .entry)) (now (domain .entry))) ⌝ }
+{
+    let good = good_service(kind, service);
+    if !good {
+        return false;
+    }
+    let good = names::domain(domain);
+    if !good {
+        return false;
+    }
+    octets::has(domain, 0x2E)
+}
+
+// Whether the 320 bytes of one record are good.
 fn good_record(b: &[u8]) -> bool
     requires { ⌜ length (now b) ≡ recordSize ⌝ }
     ensures { λ r. ⌜ r ≡ records.goodRecord (now (b .entry)) ⌝ }
@@ -88,16 +104,8 @@ fn good_record(b: &[u8]) -> bool
         return false;
     }
     let service = &b[SERVICE_AT..SERVICE_AT + service_length];
-    let good = good_service(b[0], service);
-    if !good {
-        return false;
-    }
     let domain = &b[DOMAIN_AT..DOMAIN_AT + domain_length];
-    let good = names::domain(domain);
-    if !good {
-        return false;
-    }
-    octets::has(domain, 0x2E)
+    good_reference(b[0], service, domain)
 }
 
 // "Anything else, a total of 0 bytes, or one not divisible by 320 is answer 6."

@@ -1,7 +1,8 @@
 use Prim.Native.Nat.{_≤_, _-_, _*_}
 use lib.ListN.{length}
 use borrow.Author.Needs.{needs}
-use Rattle.records.proofs.Laws.{laws, Summed}
+use Rattle.octets.proofs.Every.{AddedUp}
+use Rattle.records.proofs.Laws.{laws, zero?}
 use Rattle.records.proofs.all_zero.Statement.{statement}
 use Rattle.records.proofs.all_zero.Tie as tie
 use Rattle.records.proofs.all_zero.Reads as reads
@@ -9,7 +10,7 @@ use Rattle.records.proofs.all_zero.Lts as lts
 use Rattle.octets.proofs.wide.Reads as wide-reads
 
 abbrev Inv-loop : tie.InvT-loop
-Inv-loop s sum₀ i₀ sum i = (i ≤ length s) × (sum ≤ 255 * i) × Summed s i sum
+Inv-loop s sum₀ i₀ sum i = (i ≤ length s) × (sum ≤ 255 * i) × AddedUp zero? s i sum
 
 abbrev μ-loop : tie.MeasureT-loop
 μ-loop s sum₀ i₀ sum i = length s - i
