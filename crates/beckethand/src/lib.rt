@@ -6,6 +6,7 @@ ghost use lib.ListN.{length};
 ghost use Rattle.rules.specs.Numbers.{sanLimit};
 ghost use Rattle.rules.specs.Records.{shown};
 ghost use Rattle.rules.specs.Viewer.{viewNumbers};
+ghost use Rattle.rules.specs.Writing.{request, sanWriter, recordWriter, writtenBy, bufferBy};
 ghost use Rattle.reading.specs.Calls.{inputs, verdictOn, witnessPartOn, listingOn, tableOn, openingOn, viewOn};
 
 // A number that fits.
@@ -205,4 +206,32 @@ pub extern "C" fn beckethand_view(bytes: &[u8], which: usize, at: usize) -> rule
 {
     let v = viewer::viewed(bytes, which, at);
     numbers_of(v)
+}
+
+// The writer of SAN values.
+#[no_mangle]
+pub extern "C" fn beckethand_write_san(
+    buffer: &mut [u8],
+    texts: &[u8],
+    lengths: &[usize],
+    kinds: &[u8],
+) -> rules::Written
+    ensures { λ r. ⌜ r ≡ writtenBy sanWriter (request (now (kinds .entry)) (now (lengths .entry)) (now (texts .entry))) (length (now (buffer .entry))) ⌝ }
+    ensures { λ r. ⌜ now (buffer .exit) ≡ bufferBy sanWriter (request (now (kinds .entry)) (now (lengths .entry)) (now (texts .entry))) (now (buffer .entry)) ⌝ }
+{
+    san_writer::write_san(buffer, texts, lengths, kinds)
+}
+
+// The writer of reference records.
+#[no_mangle]
+pub extern "C" fn beckethand_write_records(
+    buffer: &mut [u8],
+    texts: &[u8],
+    lengths: &[usize],
+    kinds: &[u8],
+) -> rules::Written
+    ensures { λ r. ⌜ r ≡ writtenBy recordWriter (request (now (kinds .entry)) (now (lengths .entry)) (now (texts .entry))) (length (now (buffer .entry))) ⌝ }
+    ensures { λ r. ⌜ now (buffer .exit) ≡ bufferBy recordWriter (request (now (kinds .entry)) (now (lengths .entry)) (now (texts .entry))) (now (buffer .entry)) ⌝ }
+{
+    record_writer::write_records(buffer, texts, lengths, kinds)
 }

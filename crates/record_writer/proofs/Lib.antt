@@ -1,0 +1,4 @@
+pub mod Blank
+pub mod Listing
+pub mod Putting
+pub mod Laws

@@ -1,0 +1,4 @@
+pub mod Listing
+pub mod Measuring
+pub mod Putting
+pub mod Laws

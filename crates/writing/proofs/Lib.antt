@@ -1,0 +1,4 @@
+pub mod Adding
+pub mod Answers
+pub mod Judging
+pub mod Laws
