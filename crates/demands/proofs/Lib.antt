@@ -12,4 +12,5 @@ pub mod Records
 pub mod Demands
 pub mod Paging
 pub mod Viewings
+pub mod Writings
 pub mod Unreadable
