@@ -82,7 +82,7 @@ extern "C" {
 #define BECKETHAND_REFERENCES_UNREADABLE 6
 #define BECKETHAND_INPUT_TOO_LONG 7
 
-/* the answers of a listing and of the record reader: this 0, or one of the above; 8 is a listing's alone */
+/* the answers of a listing and of the record reader: this 0, or one of the above; 8 is a listing's alone. The writers answer this 0 too */
 #define BECKETHAND_ACCEPTED 0
 #define BECKETHAND_TABLE_TOO_SHORT 8
 
@@ -216,6 +216,48 @@ uint32_t beckethand_opening(const uint8_t *bytes, size_t bytes_len, size_t which
  * is none, or the opening is refused, it is at the end. A row's group is a count from the start of the string, so each call reads and
  * judges the string from there: the time to page through it grows with its length times its names. */
 struct beckethand_sight beckethand_view(const uint8_t *bytes, size_t bytes_len, size_t which, size_t at);
+
+/* THE WRITERS make what the other calls read: a SAN value for a certificate request, and reference records for a kiosk. What they write
+ * cannot be misspelled, and reads back as the list that was asked for.
+ *
+ * A list is three slices: one kind for each name, numbered as in a record; the texts' bytes, end to end with nothing between; and the
+ * texts' lengths. A SAN's name has one text, a record two: its service and then its domain. So `a.b`, `_m.b.c`, `sip://a.b` in a SAN are
+ *
+ *   kinds 1 2 3, lengths 3 6 9, texts "a.b_m.b.csip://a.b"
+ *
+ * and the records DNS `a.b` and SRV `m`, `a.b` are kinds 1 2, lengths 0 3 1 3, texts "a.bma.b". A pointer may be NULL where its count is
+ * 0. The buffer must not overlap the list.
+ *
+ * The answer is the first of these that applies; length is 0 and the buffer is untouched on any answer but 0:
+ *
+ *   21  empty list         no kinds: ask for one name at least
+ *   22  not a name         nothing to write: correct the list. Its lengths are not one (SAN) or two (records) for each kind, or don't add
+ *                          up to the texts' bytes; or a name is not one of its kind, as below
+ *   23  result too long    over BECKETHAND_SAN_LIMIT bytes, or over 16 records: ask for fewer names, or shorter ones
+ *   24  buffer too short   lend as many bytes as the limit, or 320 for each record
+ *    0  written            the first `length` bytes of the buffer hold the result; bytes past it keep what they held
+ *
+ * NAMES IN A SAN. 1: a domain as under RECORDS, or "*." and such a domain; 2: "_", a service, "." and a domain, none of it a wildcard; 3: a
+ * scheme, "://", optionally a user part and "@", a domain, optionally ":" and a port, and then anything from "/", "?" or "#" on. Here a
+ * domain may have one label, but not behind "*.". Every byte is below 128. Case is kept. NAMES IN RECORDS: those of a good record. */
+struct beckethand_written {
+    size_t answer, length;
+};
+
+/* the answers of the writers: BECKETHAND_ACCEPTED, or one of these */
+#define BECKETHAND_EMPTY_LIST 21
+#define BECKETHAND_NOT_A_NAME 22
+#define BECKETHAND_RESULT_TOO_LONG 23
+#define BECKETHAND_BUFFER_TOO_SHORT 24
+
+/* beckethand_write_san writes the value of a subjectAltName extension. */
+struct beckethand_written beckethand_write_san(uint8_t *buffer, size_t buffer_len, const uint8_t *texts, size_t texts_len,
+                                               const size_t *lengths, size_t lengths_count, const uint8_t *kinds, size_t kinds_count);
+
+/* beckethand_write_records writes reference records, end to end, each from 320 zero bytes. */
+struct beckethand_written beckethand_write_records(uint8_t *buffer, size_t buffer_len, const uint8_t *texts, size_t texts_len,
+                                                   const size_t *lengths, size_t lengths_count, const uint8_t *kinds,
+                                                   size_t kinds_count);
 
 #ifdef __cplusplus
 }

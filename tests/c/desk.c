@@ -4,30 +4,24 @@
  * Each input lies in an allocation of exactly its size, and a second time at the very end of a page that is followed by one that
  * may not be touched: a read past the input's end stops the program.
  */
-#include <stdbool.h>
 #include <stdio.h>
 #include <stdlib.h>
 #include <string.h>
 #include <sys/mman.h>
 #include <unistd.h>
 
-#include "beckethand.h"
-
-struct bytes {
-    uint8_t *at;
-    size_t len;
-};
+#include "desk.h"
 
 struct certificate {
     struct bytes san, subject, constraints, references;
 };
 
 static int failures = 0;
-static int cases = 0;
+int cases = 0;
 
 /* ---- byte strings */
 
-static struct bytes from_hex(const char *hex) {
+struct bytes from_hex(const char *hex) {
     struct bytes b = {NULL, 0};
     unsigned value;
     size_t n = 0;
@@ -50,7 +44,7 @@ static struct bytes from_hex(const char *hex) {
     return b;
 }
 
-static struct bytes zeros(size_t len) {
+struct bytes zeros(size_t len) {
     struct bytes b = {calloc(len ? len : 1, 1), len};
     if (!b.at)
         abort();
@@ -88,7 +82,7 @@ static void ask(struct certificate c, uint32_t got[5]) {
 }
 
 /* a copy that ends where a page ends which may not be left */
-static struct bytes guarded(struct bytes b) {
+struct bytes guarded(struct bytes b) {
     size_t page = (size_t)sysconf(_SC_PAGESIZE);
     size_t room = (b.len + page - 1) / page * page;
     uint8_t *base = mmap(NULL, room + page, PROT_READ | PROT_WRITE, MAP_PRIVATE | MAP_ANONYMOUS, -1, 0);
@@ -100,7 +94,7 @@ static struct bytes guarded(struct bytes b) {
     return copy;
 }
 
-static void check(const char *name, const char *what, bool good) {
+void check(const char *name, const char *what, bool good) {
     if (!good) {
         printf("FAILED %s: %s\n", name, what);
         failures++;
@@ -606,6 +600,7 @@ int main(void) {
     listings();
     kinds_of_rows();
     viewer();
+    writers();
     printf("C: %d cases, %d failures\n", cases, failures);
     return failures != 0;
 }

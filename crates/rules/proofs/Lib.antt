@@ -1,5 +1,5 @@
 -- The examples of document 01, about the definitions of specs/ themselves: `marked` is P1 to P16, `desk` the others;
--- `viewer` and `writers` are those of requests 3/13 and 4/13.
+-- `viewer`, `san-values` and `record-values` are those of requests 3/13 and 4/13.
 pub mod Text
 pub mod Holds
 pub mod Test

@@ -33,6 +33,10 @@ one kind t = request (kind ∷ []) (length t ∷ []) t
 abbrev of : ℕ → List ℕ → List ℕ → Request
 of kind service domain = request (kind ∷ []) (length service ∷ length domain ∷ []) (service ++ domain)
 
+-- so many URI records with the same text as scheme and as domain
+abbrev many : ℕ → List ℕ → Request
+many n t = request (replicate n 3) (replicate (n + n) (length t)) (Der.run (λ x. x) (replicate (n + n) t))
+
 abbrev three : Request
 three = request (1 ∷ 2 ∷ 3 ∷ []) (3 ∷ 6 ∷ 9 ∷ []) (text "a.b_m.b.csip://a.b")
 
@@ -85,7 +89,11 @@ sanValues =
 
 abbrev recordValues : List Example
 recordValues =
-    writes recordWriter (of 2 (text "sip") (text "A.b")) (replicate 322 7) 0 320 (recordBytes 2 (text "sip") 60 (text "A.b") 250 ++ (7 ∷ 7 ∷ []))
+    -- "a result over the .. records limit (23)": the 17th record; records that are bad are refused before
+    refuses recordWriter (many 17 (text "b")) 22
+    ∷ refuses recordWriter (many 17 (text "a.b")) 23
+    ∷ refuses recordWriter (many 16 (text "a.b")) 24
+    ∷ writes recordWriter (of 2 (text "sip") (text "A.b")) (replicate 322 7) 0 320 (recordBytes 2 (text "sip") 60 (text "A.b") 250 ++ (7 ∷ 7 ∷ []))
     ∷ writes recordWriter (of 4 [] (text "a.b")) (replicate 320 7) 0 320 (recordBytes 4 [] 63 (text "a.b") 250)
     ∷ writes recordWriter (of 1 [] (text "a.b")) (replicate 319 7) 24 0 (replicate 319 7)
     -- "or that its reader refuses"
@@ -105,11 +113,14 @@ recordValues =
     ∷ refuses recordWriter (request (1 ∷ []) (3 ∷ []) (text "a.b")) 22
     ∷ refuses recordWriter (request (1 ∷ []) (0 ∷ 3 ∷ 0 ∷ []) (text "a.b")) 22
     ∷ refuses recordWriter (request (1 ∷ []) (18446744073709551615 ∷ 4 ∷ []) (text "a.b")) 22
-    -- "a result over the .. records limit (23)"
     ∷ written (Writing.fitted 5120 5120 0 .answer ∷ Writing.fitted 5120 5121 0 .answer ∷ []) (24 ∷ 23 ∷ [])
     ∷ written (Writing.fitted 16384 16384 16384 .answer ∷ Writing.fitted 16384 16385 16385 .answer ∷ []) (0 ∷ 23 ∷ [])
     ∷ []
 
-pub writers : All (sanValues ++ recordValues)
-unfolding same begins before after ascii part Names.letter Names.digit Names.letterDigitHyphen Names.ldh Names.label Names.longer Names.labels Names.lastOf Names.domain Names.twoLabels Names.wildcard Names.dnsId Names.service Names.serviceOf Names.domainOf Names.srvId Names.schemeByte Names.scheme Names.schemeOf Names.authorityEnd Names.authorityOf Names.hostAndPort Names.hostOf Names.portOf Names.uriId Records.referenceOf Records.filled Records.goodService Records.goodReference Records.goodRecord Der.lengthBytes Der.element Der.run San.tagOf San.contentOf San.writeName Writing.cut Writing.sum Writing.agree Writing.asked Writing.goodList Writing.resultOf Writing.fitted Writing.writtenBy Writing.bufferBy Writing.identifiers Writing.idOfKind Writing.goodIdentifier Writing.nameFor Writing.references Writing.field Writing.recordFor Writing.fieldsHold Writing.goodToWrite
-writers = all-hold (sanValues ++ recordValues) tt
+pub san-values : All sanValues
+unfolding same begins before after ascii Names.letter Names.digit Names.letterDigitHyphen Names.ldh Names.label Names.longer Names.labels Names.lastOf Names.domain Names.twoLabels Names.wildcard Names.dnsId Names.service Names.serviceOf Names.domainOf Names.srvId Names.schemeByte Names.scheme Names.schemeOf Names.authorityEnd Names.authorityOf Names.hostAndPort Names.hostOf Names.portOf Names.uriId Der.lengthBytes Der.element Der.run San.tagOf San.contentOf San.writeName Writing.cut Writing.sum Writing.agree Writing.asked Writing.goodList Writing.resultOf Writing.fitted Writing.writtenBy Writing.bufferBy Writing.identifiers Writing.idOfKind Writing.goodIdentifier Writing.nameFor
+san-values = all-hold sanValues tt
+
+pub record-values : All recordValues
+unfolding same part Names.letter Names.digit Names.letterDigitHyphen Names.ldh Names.label Names.longer Names.labels Names.lastOf Names.domain Names.twoLabels Names.service Names.schemeByte Names.scheme Records.referenceOf Records.filled Records.goodService Records.goodReference Records.goodRecord Der.run Writing.cut Writing.sum Writing.agree Writing.asked Writing.goodList Writing.resultOf Writing.fitted Writing.writtenBy Writing.bufferBy Writing.references Writing.field Writing.recordFor Writing.fieldsHold Writing.goodToWrite
+record-values = all-hold recordValues tt

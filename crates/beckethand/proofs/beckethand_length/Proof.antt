@@ -7,15 +7,15 @@ use Rattle.beckethand.proofs.beckethand_length.Lts as lts
 use Rattle.beckethand.proofs.narrow.Reads as narrow-reads
 use Rattle.verdict.proofs.verdict.Reads as verdict-reads
 
--- src/lib.rt:85:9
+-- src/lib.rt:86:9
 verdict-requires : tie.Need-verdict-requires
 verdict-requires c κs = search needs
 
--- src/lib.rt:86:5
+-- src/lib.rt:87:5
 narrow-requires : tie.Need-narrow-requires
 narrow-requires c κs = search needs
 
--- src/lib.rt:76:1
+-- src/lib.rt:77:1
 returns : tie.Need-returns
 returns c = search (needs, laws)
 

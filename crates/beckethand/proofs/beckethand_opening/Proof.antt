@@ -7,15 +7,15 @@ use Rattle.beckethand.proofs.beckethand_opening.Lts as lts
 use Rattle.beckethand.proofs.narrow.Reads as narrow-reads
 use Rattle.viewer.proofs.opening.Reads as opening-reads
 
--- src/lib.rt:171:9
+-- src/lib.rt:172:9
 opening-requires : tie.Need-opening-requires
 opening-requires c κs = search needs
 
--- src/lib.rt:172:5
+-- src/lib.rt:173:5
 narrow-requires : tie.Need-narrow-requires
 narrow-requires c κs = search (needs, laws)
 
--- src/lib.rt:167:1
+-- src/lib.rt:168:1
 returns : tie.Need-returns
 returns c = search needs
 

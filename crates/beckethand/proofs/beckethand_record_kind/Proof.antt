@@ -7,15 +7,15 @@ use Rattle.beckethand.proofs.beckethand_record_kind.Lts as lts
 use Rattle.beckethand.proofs.narrow.Reads as narrow-reads
 use Rattle.records.proofs.show.Reads as show-reads
 
--- src/lib.rt:131:9
+-- src/lib.rt:132:9
 show-requires : tie.Need-show-requires
 show-requires c κs = search needs
 
--- src/lib.rt:132:5
+-- src/lib.rt:133:5
 narrow-requires : tie.Need-narrow-requires
 narrow-requires c κs = search needs
 
--- src/lib.rt:127:1
+-- src/lib.rt:128:1
 returns : tie.Need-returns
 returns c = search (needs, laws)
 

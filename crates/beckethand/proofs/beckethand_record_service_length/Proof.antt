@@ -7,15 +7,15 @@ use Rattle.beckethand.proofs.beckethand_record_service_length.Lts as lt
 use Rattle.beckethand.proofs.narrow.Reads as narrow-reads
 use Rattle.records.proofs.show.Reads as show-reads
 
--- src/lib.rt:140:9
+-- src/lib.rt:141:9
 show-requires : tie.Need-show-requires
 show-requires c κs = search needs
 
--- src/lib.rt:141:5
+-- src/lib.rt:142:5
 narrow-requires : tie.Need-narrow-requires
 narrow-requires c κs = search needs
 
--- src/lib.rt:136:1
+-- src/lib.rt:137:1
 returns : tie.Need-returns
 returns c = search (needs, laws)
 

@@ -7,15 +7,15 @@ use Rattle.beckethand.proofs.beckethand_reference.Lts as lts
 use Rattle.beckethand.proofs.narrow.Reads as narrow-reads
 use Rattle.verdict.proofs.verdict.Reads as verdict-reads
 
--- src/lib.rt:43:9
+-- src/lib.rt:44:9
 verdict-requires : tie.Need-verdict-requires
 verdict-requires c κs = search needs
 
--- src/lib.rt:44:5
+-- src/lib.rt:45:5
 narrow-requires : tie.Need-narrow-requires
 narrow-requires c κs = search needs
 
--- src/lib.rt:34:1
+-- src/lib.rt:35:1
 returns : tie.Need-returns
 returns c = search (needs, laws)
 

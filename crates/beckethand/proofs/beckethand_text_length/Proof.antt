@@ -7,15 +7,15 @@ use Rattle.beckethand.proofs.beckethand_text_length.Lts as lts
 use Rattle.beckethand.proofs.narrow.Reads as narrow-reads
 use Rattle.verdict.proofs.text_place.Reads as text-place-reads
 
--- src/lib.rt:113:9
+-- src/lib.rt:114:9
 text-place-requires : tie.Need-text-place-requires
 text-place-requires c κs = search needs
 
--- src/lib.rt:114:5
+-- src/lib.rt:115:5
 narrow-requires : tie.Need-narrow-requires
 narrow-requires c κs = search needs
 
--- src/lib.rt:104:1
+-- src/lib.rt:105:1
 returns : tie.Need-returns
 returns c = search (needs, laws)
 

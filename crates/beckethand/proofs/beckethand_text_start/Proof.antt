@@ -7,15 +7,15 @@ use Rattle.beckethand.proofs.beckethand_text_start.Lts as lts
 use Rattle.beckethand.proofs.narrow.Reads as narrow-reads
 use Rattle.verdict.proofs.text_place.Reads as text-place-reads
 
--- src/lib.rt:99:9
+-- src/lib.rt:100:9
 text-place-requires : tie.Need-text-place-requires
 text-place-requires c κs = search needs
 
--- src/lib.rt:100:5
+-- src/lib.rt:101:5
 narrow-requires : tie.Need-narrow-requires
 narrow-requires c κs = search needs
 
--- src/lib.rt:90:1
+-- src/lib.rt:91:1
 returns : tie.Need-returns
 returns c = search (needs, laws)
 

@@ -7,15 +7,15 @@ use Rattle.beckethand.proofs.beckethand_view.Lts as lts
 use Rattle.beckethand.proofs.numbers_of.Reads as numbers-of-reads
 use Rattle.viewer.proofs.viewed.Reads as viewed-reads
 
--- src/lib.rt:206:9
+-- src/lib.rt:207:9
 viewed-requires : tie.Need-viewed-requires
 viewed-requires c κs = search needs
 
--- src/lib.rt:207:5
+-- src/lib.rt:208:5
 numbers-of-requires : tie.Need-numbers-of-requires
 numbers-of-requires c κs = search needs
 
--- src/lib.rt:202:1
+-- src/lib.rt:203:1
 returns : tie.Need-returns
 returns c = search (needs, laws)
 

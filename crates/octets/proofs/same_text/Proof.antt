@@ -16,43 +16,43 @@ Inv-loop a b n k₀ k = (n ≡ length a) × (n ≡ length b) × (k ≤ n) × Tex
 abbrev μ-loop : tie.MeasureT-loop
 μ-loop a b n k₀ k = n - k
 
--- src/lib.rt:105:9
+-- src/lib.rt:106:9
 returns : tie.Need-returns Inv-loop μ-loop
 returns c = search (needs, laws)
 
--- src/lib.rt:108:5
+-- src/lib.rt:109:5
 loop-holds : tie.Need-loop-holds Inv-loop μ-loop
 loop-holds c = search (needs, laws)
 
--- src/lib.rt:109:23
+-- src/lib.rt:110:23
 shared-slice-read-lower : tie.Need-shared-slice-read-lower Inv-loop μ-loop
 shared-slice-read-lower c = search (needs, laws)
 
--- src/lib.rt:109:13
+-- src/lib.rt:110:13
 lower-requires : tie.Need-lower-requires Inv-loop μ-loop
 lower-requires c κs = search (needs, laws)
 
--- src/lib.rt:110:23
+-- src/lib.rt:111:23
 shared-slice-read-lower-2 : tie.Need-shared-slice-read-lower-2 Inv-loop μ-loop
 shared-slice-read-lower-2 c = search (needs, laws)
 
--- src/lib.rt:110:13
+-- src/lib.rt:111:13
 lower-requires-2 : tie.Need-lower-requires-2 Inv-loop μ-loop
 lower-requires-2 c κs = search (needs, laws)
 
--- src/lib.rt:112:13
+-- src/lib.rt:113:13
 returns-2 : tie.Need-returns-2 Inv-loop μ-loop
 returns-2 c = search (needs, laws)
 
--- src/lib.rt:114:9
+-- src/lib.rt:115:9
 add-k : tie.Need-add-k Inv-loop μ-loop
 add-k c = search (needs, laws)
 
--- src/lib.rt:108:5
+-- src/lib.rt:109:5
 loop-less : tie.Need-loop-less Inv-loop μ-loop
 loop-less c = search (needs, laws)
 
--- src/lib.rt:108:5
+-- src/lib.rt:109:5
 loop-again : tie.Need-loop-again Inv-loop μ-loop
 loop-again c =
     let inv = c .before .before .before .before .before .before .loop .inv in
@@ -61,7 +61,7 @@ loop-again c =
     (c .before .lower2 .ensures) in
     (search needs, search needs, search needs, step (search needs) (c .if2 .left))
 
--- src/lib.rt:100:1
+-- src/lib.rt:101:1
 returns-3 : tie.Need-returns-3 Inv-loop μ-loop
 returns-3 c = search (needs, laws)
 

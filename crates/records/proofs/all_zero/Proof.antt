@@ -15,35 +15,35 @@ Inv-loop s sum₀ i₀ sum i = (i ≤ length s) × (sum ≤ 255 * i) × AddedUp 
 abbrev μ-loop : tie.MeasureT-loop
 μ-loop s sum₀ i₀ sum i = length s - i
 
--- src/lib.rt:28:5
+-- src/lib.rt:37:5
 loop-holds : tie.Need-loop-holds Inv-loop μ-loop
 loop-holds c = search (needs, laws)
 
--- src/lib.rt:29:21
+-- src/lib.rt:38:21
 shared-slice-read-wide : tie.Need-shared-slice-read-wide Inv-loop μ-loop
 shared-slice-read-wide c = search (needs, laws)
 
--- src/lib.rt:29:16
+-- src/lib.rt:38:16
 wide-requires : tie.Need-wide-requires Inv-loop μ-loop
 wide-requires c κs = search (needs, laws)
 
--- src/lib.rt:29:9
+-- src/lib.rt:38:9
 add-sum : tie.Need-add-sum Inv-loop μ-loop
 add-sum c = search (needs, laws)
 
--- src/lib.rt:30:9
+-- src/lib.rt:39:9
 add-i : tie.Need-add-i Inv-loop μ-loop
 add-i c = search (needs, laws)
 
--- src/lib.rt:28:5
+-- src/lib.rt:37:5
 loop-less : tie.Need-loop-less Inv-loop μ-loop
 loop-less c = search (needs, laws)
 
--- src/lib.rt:28:5
+-- src/lib.rt:37:5
 loop-again : tie.Need-loop-again Inv-loop μ-loop
 loop-again c = search (needs, laws)
 
--- src/lib.rt:22:1
+-- src/lib.rt:30:1
 returns : tie.Need-returns Inv-loop μ-loop
 returns c = search (needs, laws)
 

@@ -15,59 +15,59 @@ Inv-loop lengths kinds size₀ i₀ size i = (i ≤ length kinds) × (size ≤ 1
 abbrev μ-loop : tie.MeasureT-loop
 μ-loop lengths kinds size₀ i₀ size i = length kinds - i
 
--- src/lib.rt:94:5
+-- src/lib.rt:96:5
 loop-holds : tie.Need-loop-holds Inv-loop μ-loop
 loop-holds c = search (needs, laws)
 
--- src/lib.rt:95:17
+-- src/lib.rt:97:17
 mul-n : tie.Need-mul-n Inv-loop μ-loop
 mul-n c = search (needs, laws)
 
--- src/lib.rt:95:17
+-- src/lib.rt:97:17
 shared-slice-read-n : tie.Need-shared-slice-read-n Inv-loop μ-loop
 shared-slice-read-n c = search (needs, laws)
 
--- src/lib.rt:97:20
+-- src/lib.rt:99:20
 add-result : tie.Need-add-result Inv-loop μ-loop
 add-result c = search (needs, laws)
 
--- src/lib.rt:97:13
+-- src/lib.rt:99:13
 returns : tie.Need-returns Inv-loop μ-loop
 returns c = search (needs, laws)
 
--- src/lib.rt:99:30
+-- src/lib.rt:101:30
 shared-slice-read-name-size : tie.Need-shared-slice-read-name-size Inv-loop μ-loop
 shared-slice-read-name-size c = search (needs, laws)
 
--- src/lib.rt:99:13
+-- src/lib.rt:101:13
 name-size-requires : tie.Need-name-size-requires Inv-loop μ-loop
 name-size-requires c κs = search (needs, laws)
 
--- src/lib.rt:100:9
+-- src/lib.rt:102:9
 add-size : tie.Need-add-size Inv-loop μ-loop
 add-size c = search (needs, laws)
 
--- src/lib.rt:102:20
+-- src/lib.rt:104:20
 add-result-2 : tie.Need-add-result-2 Inv-loop μ-loop
 add-result-2 c = search (needs, laws)
 
--- src/lib.rt:102:13
+-- src/lib.rt:104:13
 returns-2 : tie.Need-returns-2 Inv-loop μ-loop
 returns-2 c = search (needs, laws)
 
--- src/lib.rt:104:9
+-- src/lib.rt:106:9
 add-i : tie.Need-add-i Inv-loop μ-loop
 add-i c = search (needs, laws)
 
--- src/lib.rt:94:5
+-- src/lib.rt:96:5
 loop-less : tie.Need-loop-less Inv-loop μ-loop
 loop-less c = search (needs, laws)
 
--- src/lib.rt:94:5
+-- src/lib.rt:96:5
 loop-again : tie.Need-loop-again Inv-loop μ-loop
 loop-again c = search (needs, laws)
 
--- src/lib.rt:88:1
+-- src/lib.rt:90:1
 returns-3 : tie.Need-returns-3 Inv-loop μ-loop
 returns-3 c = search (needs, laws)
 
