@@ -13,7 +13,7 @@ use Rattle.rules.specs.Bytes.{some?, all, same, ascii, begins}
 use Rattle.rules.specs.Numbers.{recordSize}
 use Rattle.rules.specs.Names.{srvId}
 use Rattle.rules.specs.Records.{Reference, referenceOf, goodRecord, split, recordsOf, goodRecords, referencesOf}
-use Rattle.rules.specs.Der.{run}
+use Rattle.rules.specs.Der.{element, run}
 use Rattle.rules.specs.San.{goodName, goodValue, sealed, goodSrvName, sanGrammar}
 use Rattle.rules.specs.Seen.{listed, sanInput, Sees, seenRecords}
 use Rattle.rules.specs.Writing.{Request, cut, sum, agree, Writer, asked, goodList, resultOf, refusal, fitted, writtenBy, bufferBy, Identifier, identifiers, idOfKind, goodIdentifier, nameFor, sanWriter, references, recordFor, fieldsHold, goodToWrite, recordWriter}
@@ -185,6 +185,10 @@ san-reads-back q lent z =
     let names = names-good (asked sanWriter q) (is-true _ (g .taken)) in
     (a .within, inl (record { good = rw (names, some) tt; bytes-are = refl }))
 
+san-present : (q : Request) → resultOf sanWriter q ≢ []
+unfolding resultOf element
+san-present q e = let z = ap length e in omega arith
+
 -- what a list asks for is that list, and its lists agree
 asked-for : (l : List Identifier) → asked sanWriter (sanRequest l) ≡ l
 unfolding asked cut identifiers run
@@ -222,6 +226,7 @@ san-writes-back b l present (within, inl w) good lent room = (rw (← bytes) tak
 pub san-writer : SanWriter
 san-writer = record {
   writes = writes sanWriter;
+  present = san-present;
   reads-back = san-reads-back;
   reads-only = λ q lent z x s. san-seen _ x s ∙ sym (san-seen _ _ (san-reads-back q lent z));
   asked-for = asked-for;

@@ -54,6 +54,7 @@ sanRequest l = request (map (λ i. i .kind) l) (map (λ i. length (i .text)) l) 
 pub record SanWriter : Type 0 where
   pub writes : (q : Request) → Writes sanWriter q
   -- "What is written reads back as that list": it is a present, readable SAN within its limit, and nothing else is seen of it
+  pub present : (q : Request) → resultOf sanWriter q ≢ []
   pub reads-back :
       (q : Request) (lent : ℕ) → writtenBy sanWriter q lent .answer ≡ 0
       → Sees sanInput (resultOf sanWriter q) (listed (map nameFor (asked sanWriter q)))

@@ -85,6 +85,11 @@ sanValues =
     ∷ srvName 127 148
     ∷ srvName 128 150
     ∷ srvName 317 343
+    -- "a result over the SAN .. limit (23)": a URI of 16,376 bytes, and of one more
+    ∷ refuses sanWriter (one 3 (text "sip://a.b/" ++ replicate 16366 0x78)) 24
+    ∷ refuses sanWriter (one 3 (text "sip://a.b/" ++ replicate 16367 0x78)) 23
+    -- and, far over it, a text behind that is no name
+    ∷ refuses sanWriter (request (3 ∷ 1 ∷ []) (70000 ∷ 1 ∷ []) (text "sip://a.b/" ++ (replicate 69990 0x78 ++ text "-"))) 22
     ∷ []
 
 abbrev recordValues : List Example
@@ -113,8 +118,6 @@ recordValues =
     ∷ refuses recordWriter (request (1 ∷ []) (3 ∷ []) (text "a.b")) 22
     ∷ refuses recordWriter (request (1 ∷ []) (0 ∷ 3 ∷ 0 ∷ []) (text "a.b")) 22
     ∷ refuses recordWriter (request (1 ∷ []) (18446744073709551615 ∷ 4 ∷ []) (text "a.b")) 22
-    ∷ written (Writing.fitted 5120 5120 0 .answer ∷ Writing.fitted 5120 5121 0 .answer ∷ []) (24 ∷ 23 ∷ [])
-    ∷ written (Writing.fitted 16384 16384 16384 .answer ∷ Writing.fitted 16384 16385 16385 .answer ∷ []) (0 ∷ 23 ∷ [])
     ∷ []
 
 pub san-values : All sanValues
