@@ -6,18 +6,21 @@ use crate::name::{kind, Name, Row};
 /// "the eight bytes 2B 06 01 05 05 07 08 07"
 pub const SRV_NAME_OID: [u8; 8] = [0x2B, 0x06, 0x01, 0x05, 0x05, 0x07, 0x08, 0x07];
 
-const OID: u8 = 0x06;
-const IA5_STRING: u8 = 0x16;
-const EXPLICIT: u8 = 0xA0;
+pub(crate) const OID: u8 = 0x06;
+pub(crate) const IA5_STRING: u8 = 0x16;
+pub(crate) const EXPLICIT: u8 = 0xA0;
+pub(crate) const OTHER_NAME: u8 = 0xA0;
+pub(crate) const DNS_NAME: u8 = 0x82;
+pub(crate) const URI: u8 = 0x86;
 
 /// "81, 82, 86: every byte below 128. 87, 88, A3, A4, A5: content not looked
 /// into. Tags not named here are unreadable."
 #[inline(always)]
 pub fn read(element: Element<'_>, group: usize) -> Option<Name<'_>> {
     match element.tag {
-        0x81 | 0x82 | 0x86 if element.content.is_ascii() => Some(plain(element, group)),
+        0x81 | DNS_NAME | URI if element.content.is_ascii() => Some(plain(element, group)),
         0x87 | 0x88 | 0xA3 | 0xA4 | 0xA5 => Some(plain(element, group)),
-        0xA0 => other_name(element, group),
+        OTHER_NAME => other_name(element, group),
         _ => None,
     }
 }

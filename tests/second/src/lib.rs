@@ -1,6 +1,6 @@
 //! A second implementation of the certificate name check, written from the
 //! document "The rules and what will be built" (document 01) and requests 1/13
-//! to 3/13 of "New change requests from customers" (document 02) alone. Quoted
+//! to 4/13 of "New change requests from customers" (document 02) alone. Quoted
 //! sentences in the comments are document 01's, or a request's where they say
 //! so.
 
@@ -19,6 +19,7 @@ pub mod text;
 pub mod tree;
 pub mod verdict;
 pub mod viewer;
+pub mod writer;
 
 #[cfg(feature = "archive")]
 pub mod archive;
@@ -28,6 +29,7 @@ pub use name::Row;
 pub use records::{record, RecordView};
 pub use verdict::{judge, text_place, verdict, Outcome, Place, Verdict};
 pub use viewer::Viewer;
+pub use writer::{write_records, write_san, Lists, Writer, Written};
 
 /// "Numbers the kiosk sees": what each answer means.
 pub mod answer {
@@ -40,6 +42,12 @@ pub mod answer {
     pub const REFERENCES_UNREADABLE: u32 = 6;
     pub const TOO_LONG: u32 = 7;
     pub const TABLE_TOO_SHORT: u32 = 8;
+    /// Request 4/13: what a writer answers.
+    pub const WRITTEN: u32 = 0;
+    pub const EMPTY_LIST: u32 = 21;
+    pub const UNFIT: u32 = 22;
+    pub const RESULT_TOO_LONG: u32 = 23;
+    pub const BUFFER_TOO_SHORT: u32 = 24;
 }
 
 /// "Longest inputs, in bytes: SAN 16,384; subject 4,096; constraints 16,384;

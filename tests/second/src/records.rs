@@ -8,8 +8,8 @@ pub const RECORD: usize = 320;
 pub const MOST_RECORDS: usize = 16;
 
 /// "Bytes 4 to 66 service, 67 to 319 domain"
-const SERVICE: usize = 4;
-const DOMAIN: usize = 67;
+pub(crate) const SERVICE: usize = 4;
+pub(crate) const DOMAIN: usize = 67;
 
 /// "Byte 0 kind: 1 DNS, 2 SRV, 3 URI, 4 CN."
 pub mod kind {
@@ -38,7 +38,7 @@ impl<'a> Reference<'a> {
     /// below, without a wildcard." Request 1/13, of records of every kind: "a
     /// reference record whose domain has one label is refused with 6". Request
     /// 2/13, of what a domain is: "This holds for [...] records (6)".
-    fn read(record: &'a [u8]) -> Option<Self> {
+    pub(crate) fn read(record: &'a [u8]) -> Option<Self> {
         let [kind, zero, service_length, domain_length, ..] = *record else {
             return None;
         };

@@ -4,7 +4,7 @@ use crate::der::Cursor;
 use crate::general_name;
 use crate::name::Name;
 
-const SEQUENCE: u8 = 0x30;
+pub(crate) const SEQUENCE: u8 = 0x30;
 
 /// Visits each entry in order. "SAN: tag 30, one or more GeneralNames"; "an
 /// absent SAN or absent constraints count as readable, with the empty list".

@@ -72,6 +72,16 @@ pub fn parent(domain: &[u8]) -> Option<&[u8]> {
     has_two_labels(parent).then_some(parent)
 }
 
+/// "DNS-ID: a dNSName that is a domain, or `*.` and a domain (at most 253 bytes
+/// in all)." Request 1/13: "From now on a wildcard needs at least two labels
+/// after it".
+pub fn is_dns_id(text: &[u8]) -> bool {
+    match text.strip_prefix(b"*.") {
+        None => is_domain(text),
+        Some(rest) => text.len() <= LONGEST_DOMAIN && is_domain(rest) && has_two_labels(rest),
+    }
+}
+
 /// Service and domain of an SRVName, not yet judged: "_", what stands before
 /// the first dot, and what stands after it.
 pub fn srv_parts(text: &[u8]) -> Option<Pair<'_>> {
@@ -102,6 +112,12 @@ pub fn uri_parts(text: &[u8]) -> Option<Pair<'_>> {
             .all(u8::is_ascii_digit)
             .then_some((scheme, domain)),
     }
+}
+
+/// "URI-ID: a scheme as in a record, "://", then an authority [...]". What
+/// stands around the domain may have any bytes.
+pub fn is_uri_id(text: &[u8]) -> bool {
+    uri_parts(text).is_some_and(|(scheme, domain)| is_scheme(scheme) && is_domain(domain))
 }
 
 /// Service and domain of an SRVName subtree, each where it is given.
