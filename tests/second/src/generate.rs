@@ -1,15 +1,19 @@
-//! A seeded generator of whole cases: four inputs of a name check.
+//! A seeded generator of whole cases: four inputs of a name check; and of jobs
+//! for the writers.
 
 pub mod boundary;
+pub mod buffers;
 mod crowd;
 mod draft;
+pub mod lists;
 mod mutate;
 pub mod positions;
 pub mod random;
+pub mod rewrite;
 mod uri;
 mod words;
 
-use crate::{judge, Outcome};
+use crate::{judge, Lists, Outcome, Writer};
 use draft::Draft;
 pub use random::Random;
 use words::Pool;
@@ -32,6 +36,72 @@ impl Case {
             &self.constraints,
             &self.references,
         )
+    }
+}
+
+/// What one of the writers is handed (request 4/13).
+#[derive(Clone, Debug, Default, PartialEq, Eq)]
+pub struct Job {
+    pub writer: Writer,
+    pub texts: Vec<u8>,
+    pub lengths: Vec<usize>,
+    pub kinds: Vec<u8>,
+}
+
+impl Job {
+    /// A job without a name.
+    pub fn new(writer: Writer) -> Self {
+        Job {
+            writer,
+            ..Job::default()
+        }
+    }
+
+    /// The names of a SAN: kinds and texts.
+    pub fn san<'a>(names: impl IntoIterator<Item = (u8, &'a [u8])>) -> Self {
+        let mut job = Job::new(Writer::San);
+        for (kind, text) in names {
+            job.push(kind, &[text]);
+        }
+        job
+    }
+
+    /// Records: kinds, services and domains.
+    pub fn records<'a>(records: impl IntoIterator<Item = (u8, &'a [u8], &'a [u8])>) -> Self {
+        let mut job = Job::new(Writer::Records);
+        for (kind, service, domain) in records {
+            job.push(kind, &[service, domain]);
+        }
+        job
+    }
+
+    /// Appends a name.
+    pub fn push(&mut self, kind: u8, texts: &[&[u8]]) {
+        self.kinds.push(kind);
+        for text in texts {
+            self.lengths.push(text.len());
+            self.texts.extend(*text);
+        }
+    }
+
+    pub fn lists(&self) -> Lists<'_> {
+        Lists {
+            texts: &self.texts,
+            lengths: &self.lengths,
+            kinds: &self.kinds,
+        }
+    }
+
+    /// The texts, one for each length, where these cut them to the last byte.
+    pub fn cut(&self) -> Option<Vec<&[u8]>> {
+        let mut rest = self.texts.as_slice();
+        let mut texts = Vec::with_capacity(self.lengths.len());
+        for &length in &self.lengths {
+            let (text, behind) = rest.split_at_checked(length)?;
+            texts.push(text);
+            rest = behind;
+        }
+        rest.is_empty().then_some(texts)
     }
 }
 

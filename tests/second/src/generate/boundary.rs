@@ -6,6 +6,7 @@ mod lengths;
 mod numbers;
 mod rows;
 mod uris;
+pub mod writers;
 
 use super::draft::{padded_constraints, padded_san, padded_subject};
 use super::mutate::{nth, size};
