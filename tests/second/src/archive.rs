@@ -3,6 +3,7 @@
 use crate::name::Row;
 use crate::records::RecordView;
 use crate::verdict::{Outcome, Place, Verdict};
+use crate::writer::{Lists, Writer};
 use std::ptr;
 
 /// "count" and "answer" of a listing, as C sees them.
@@ -21,6 +22,14 @@ pub struct CSight {
     pub shown: usize,
     pub row: Row,
     pub at: usize,
+}
+
+/// Answer and length of what a writer wrote, as C sees them.
+#[repr(C)]
+#[derive(Clone, Copy, Debug, PartialEq, Eq)]
+pub struct CWritten {
+    pub answer: usize,
+    pub length: usize,
 }
 
 /// Declares one number of the verdict: a C function on four slices.
@@ -45,6 +54,25 @@ on_four_slices! {
     beckethand_length
     beckethand_text_start
     beckethand_text_length
+}
+
+/// Declares a writer: a C function on a lent buffer and three lists.
+macro_rules! on_lists {
+    ($($function:ident)*) => {
+        extern "C" {
+            $(fn $function(
+                buffer: *mut u8, buffer_len: usize,
+                texts: *const u8, texts_len: usize,
+                lengths: *const usize, lengths_count: usize,
+                kinds: *const u8, kinds_count: usize,
+            ) -> CWritten;)*
+        }
+    };
+}
+
+on_lists! {
+    beckethand_write_san
+    beckethand_write_records
 }
 
 extern "C" {
@@ -72,10 +100,18 @@ extern "C" {
 }
 
 /// Pointer and length; NULL for an empty slice, as C programs write it.
-fn pair(bytes: &[u8]) -> (*const u8, usize) {
-    match bytes {
+fn pair<T>(items: &[T]) -> (*const T, usize) {
+    match items {
         [] => (ptr::null(), 0),
-        _ => (bytes.as_ptr(), bytes.len()),
+        _ => (items.as_ptr(), items.len()),
+    }
+}
+
+/// The same for a slice that is lent to be written.
+fn lent<T>(items: &mut [T]) -> (*mut T, usize) {
+    match items {
+        [] => (ptr::null_mut(), 0),
+        _ => (items.as_mut_ptr(), items.len()),
     }
 }
 
@@ -151,14 +187,10 @@ pub fn record(references: &[u8], index: usize) -> RecordView {
 /// the constraints.
 pub fn list_into(table: &mut [Row], bytes: &[u8], number: usize) -> CListed {
     let (bytes, bytes_len) = pair(bytes);
-    let rows = if table.is_empty() {
-        ptr::null_mut()
-    } else {
-        table.as_mut_ptr()
-    };
+    let (rows, rows_len) = lent(table);
     // SAFETY: as in `call`; the table is lent for the call alone, and any
     // numbers are a row.
-    unsafe { beckethand_list(rows, table.len(), bytes, bytes_len, number) }
+    unsafe { beckethand_list(rows, rows_len, bytes, bytes_len, number) }
 }
 
 /// The answer of a viewer's opening. The number is as in `list_into`.
@@ -173,4 +205,30 @@ pub fn view(bytes: &[u8], number: usize, at: usize) -> CSight {
     let (bytes, bytes_len) = pair(bytes);
     // SAFETY: as in `call`.
     unsafe { beckethand_view(bytes, bytes_len, number, at) }
+}
+
+/// What a writer makes of the lists, in a lent buffer.
+pub fn write(writer: Writer, buffer: &mut [u8], lists: Lists<'_>) -> CWritten {
+    let function = match writer {
+        Writer::San => beckethand_write_san,
+        Writer::Records => beckethand_write_records,
+    };
+    let (buffer, buffer_len) = lent(buffer);
+    let (texts, texts_len) = pair(lists.texts);
+    let (lengths, lengths_count) = pair(lists.lengths);
+    let (kinds, kinds_count) = pair(lists.kinds);
+    // SAFETY: as in `call`; the buffer is lent for the call alone, overlaps none
+    // of the lists, and any bytes may stand in it.
+    unsafe {
+        function(
+            buffer,
+            buffer_len,
+            texts,
+            texts_len,
+            lengths,
+            lengths_count,
+            kinds,
+            kinds_count,
+        )
+    }
 }

@@ -1,14 +1,18 @@
 //! Compares this implementation with the archive of the other one.
 //!
-//! `compare --cases N --seed S` runs the desk examples, the boundary table and
-//! N generated cases, and ends with 1 if an answer, a kind of match or something
-//! that a viewer shows never occurred. With `--first K` it runs the N cases from
-//! number K on and nothing else. `compare --soak` runs cases under fresh seeds
-//! until it is stopped. All end with 1 at the first difference.
+//! `compare --cases N --seed S` runs the desk examples, the boundary tables and
+//! N generated cases, and ends with 1 if an answer, a kind of match, something
+//! that a viewer shows or an answer of a writer never occurred. With `--first K`
+//! it runs the N cases from number K on and nothing else. `compare --soak` runs
+//! cases under fresh seeds until it is stopped. All end with 1 at the first
+//! difference.
+
+#[path = "compare/writers.rs"]
+mod writers;
 
 use second::archive::{self, CListed, CSight, Inputs};
 use second::generate::positions::{pages, positions};
-use second::generate::{self, boundary, Case, Random};
+use second::generate::{self, boundary, lists, Case, Random};
 use second::records::RECORD;
 use second::{examples, judge, list, record, Outcome, Row, Viewer, Which};
 use std::ops::Range;
@@ -78,10 +82,11 @@ impl Run {
     }
 }
 
-/// The examples, the boundary table and the generated cases of one seed.
+/// The examples, the boundary tables and the generated cases of one seed.
 fn fixed(cases: u64, seed: u64) -> Result<(), String> {
     let started = Instant::now();
     tables()?;
+    writer_table()?;
     let tally = generated(cases, seed, 0)?;
     tally.print();
     let seconds = started.elapsed().as_secs_f64();
@@ -116,14 +121,35 @@ fn tables() -> Result<(), String> {
     result
 }
 
+/// The boundary table of the writers.
+fn writer_table() -> Result<(), String> {
+    let mut tally = writers::Tally::default();
+    let mut old_bytes = Random::new(0, 1);
+    let mut lines = 0;
+    let mut result = Ok(());
+    boundary::writers::each(&mut |(what, job)| {
+        if result.is_ok() {
+            result = writers::compare_job(job, &mut old_bytes, &mut tally)
+                .map_err(|difference| format!("writers' line {lines}: {what}\n{difference}"));
+            lines += 1;
+        }
+    });
+    println!("{lines} boundary lines of writers");
+    result
+}
+
 /// The generated cases of one seed.
 fn generated(cases: u64, seed: u64, first: u64) -> Result<Tally, String> {
     let mut tally = Tally::default();
     for number in first..first.saturating_add(cases) {
         let case = generate::case(seed, number);
         let mut old_rows = Random::new(!seed, number);
-        compare(&case, &mut old_rows, &mut tally)
-            .map_err(|difference| format!("seed {seed}, case {number}\n{difference}"))?;
+        let mut result = compare(&case, &mut old_rows, &mut tally);
+        for job in lists::jobs(seed, number) {
+            result =
+                result.and_then(|()| writers::compare_job(job, &mut old_rows, &mut tally.writers));
+        }
+        result.map_err(|difference| format!("seed {seed}, case {number}\n{difference}"))?;
     }
     Ok(tally)
 }
@@ -195,7 +221,7 @@ fn compare(case: &Case, old_rows: &mut Random, tally: &mut Tally) -> Result<(), 
             &archive::record(inputs.references, index),
         )?;
     }
-    Ok(())
+    writers::compare_case(case, old_rows, &mut tally.writers)
 }
 
 /// Lists one string into tables of several lengths.
@@ -397,13 +423,14 @@ fn hex(bytes: &[u8]) -> String {
     bytes.iter().map(|byte| format!("{byte:02X}")).collect()
 }
 
-/// How often each answer and each kind of match occurred, and what viewers of
-/// each of the three strings showed.
+/// How often each answer and each kind of match occurred, what viewers of each
+/// of the three strings showed, and what writers answered.
 #[derive(Default)]
 struct Tally {
     answers: [u64; 9],
     matches: [u64; MATCHES.len()],
     viewers: [ViewerTally; 3],
+    writers: writers::Tally,
 }
 
 /// What viewers of one string showed.
@@ -461,7 +488,12 @@ impl Tally {
         let matches = matches.map(|(name, count)| (format!("match by {name}"), count));
         let viewers = Which::ALL.into_iter().zip(&self.viewers);
         let viewers = viewers.flat_map(|(which, tally)| tally.lines(which));
-        answers.chain(matches).chain(viewers).collect()
+        let writers = self.writers.lines();
+        answers
+            .chain(matches)
+            .chain(viewers)
+            .chain(writers)
+            .collect()
     }
 
     fn print(&self) {
