@@ -1,5 +1,5 @@
-//! The stored output of the programs `vectors`, `listed`, `paged` and
-//! `witnessed`, line by line from this implementation.
+//! The stored output of the programs `vectors`, `listed`, `paged`, `witnessed`
+//! and `written`, line by line from this implementation.
 
 use second::examples::{J, THREE_ATTRIBUTES, THREE_SUBTREES, TWO_ENTRIES};
 use second::records::kind::{CN, DNS, SRV, URI};
@@ -7,7 +7,7 @@ use second::text::{
     has_two_labels, is_domain, is_scheme, is_service, is_srv_subtree, lies_in, srv_id, uri_parts,
 };
 use second::tree::{dns_name, record, san, srv_name, uri_name, Node};
-use second::{answer, judge, list, list_into, verdict, Row, Viewer, Which};
+use second::{answer, judge, list, list_into, verdict, Lists, Row, Viewer, Which, Writer};
 use std::fs;
 
 /// A file beside the source of one of the programs.
@@ -366,4 +366,138 @@ fn witnessed() {
         })
         .collect();
     stored("witnessed", &lines);
+}
+
+/// A line of `written`: title, kinds, lengths, texts, and how many bytes are
+/// lent.
+type Asked = (
+    &'static str,
+    &'static [u8],
+    &'static [usize],
+    &'static [u8],
+    usize,
+);
+
+const LAST: usize = usize::MAX;
+const THREE_NAMES: &[u8] = b"a.b_m.b.csip://a.b";
+
+const WRITTEN_SANS: [Asked; 25] = [
+    ("three names", &[1, 2, 3], &[3, 6, 9], THREE_NAMES, 44),
+    (
+        "three names, just enough",
+        &[1, 2, 3],
+        &[3, 6, 9],
+        THREE_NAMES,
+        40,
+    ),
+    (
+        "three names, a byte short",
+        &[1, 2, 3],
+        &[3, 6, 9],
+        THREE_NAMES,
+        39,
+    ),
+    (
+        "three names, no buffer",
+        &[1, 2, 3],
+        &[3, 6, 9],
+        THREE_NAMES,
+        0,
+    ),
+    ("one label", &[1], &[1], b"b", 8),
+    ("a wildcard", &[1], &[5], b"*.b.c", 12),
+    ("a wildcard over one label", &[1], &[3], b"*.b", 12),
+    ("an address", &[1], &[8], b"10.4.0.7", 12),
+    ("no kinds", &[], &[3], b"a.b", 12),
+    ("nothing", &[], &[], b"", 0),
+    ("a length more", &[1], &[3, 0], b"a.b", 12),
+    ("a length fewer", &[1, 1], &[3], b"a.b", 12),
+    ("a byte left over", &[1], &[2], b"a.b", 12),
+    ("a length past the texts", &[1], &[4], b"a.b", 12),
+    ("a sum that wraps", &[1, 1], &[LAST, 4], b"a.b", 12),
+    ("kind 0", &[0], &[3], b"a.b", 12),
+    ("kind 4", &[4], &[3], b"a.b", 12),
+    ("kind 255", &[255], &[3], b"a.b", 12),
+    ("an empty text", &[1], &[0], b"", 12),
+    (
+        "a byte above 127 in a path",
+        &[3],
+        &[12],
+        b"sip://a.b/\xC3\xA9",
+        20,
+    ),
+    (
+        "a byte above 127 before the at sign",
+        &[3],
+        &[11],
+        b"sip://\xFF@a.b",
+        20,
+    ),
+    ("an SRVName as a dNSName", &[1], &[6], b"_m.b.c", 40),
+    ("a dNSName as an SRVName", &[2], &[3], b"a.b", 40),
+    ("case is kept", &[1, 2], &[3, 6], b"A.b_M.b.C", 40),
+    (
+        "a bad text behind a good one",
+        &[1, 1],
+        &[3, 1],
+        b"a.b-",
+        12,
+    ),
+];
+
+const WRITTEN_RECORDS: [Asked; 19] = [
+    ("a DNS record", &[1], &[0, 3], b"a.b", 322),
+    ("an SRV record", &[2], &[3, 3], b"sipa.b", 320),
+    ("a URI record", &[3], &[3, 3], b"sipa.b", 320),
+    ("a CN record", &[4], &[0, 3], b"a.b", 320),
+    ("two records", &[1, 2], &[0, 3, 1, 3], b"a.bma.b", 640),
+    ("a record, a byte short", &[1], &[0, 3], b"a.b", 319),
+    ("a record, case is kept", &[2], &[3, 3], b"SiPA.b", 320),
+    ("a record of one label", &[1], &[0, 1], b"b", 320),
+    ("a record of a wildcard", &[1], &[0, 5], b"*.b.c", 320),
+    ("a record of an address", &[1], &[0, 8], b"10.4.0.7", 320),
+    ("a DNS record with a service", &[1], &[1, 3], b"ma.b", 320),
+    (
+        "an SRV record without a service",
+        &[2],
+        &[0, 3],
+        b"a.b",
+        320,
+    ),
+    ("a record of kind 0", &[0], &[0, 3], b"a.b", 320),
+    ("a record of kind 5", &[5], &[0, 3], b"a.b", 320),
+    ("no kinds for records", &[], &[0, 3], b"a.b", 320),
+    ("one length for a record", &[1], &[3], b"a.b", 320),
+    ("three lengths for a record", &[1], &[0, 3, 0], b"a.b", 320),
+    ("a byte left over by records", &[1], &[0, 2], b"a.b", 320),
+    (
+        "records with a sum that wraps",
+        &[1],
+        &[LAST, 4],
+        b"a.b",
+        320,
+    ),
+];
+
+/// Answer, length and the whole buffer, each byte of which was EE.
+fn asked(writer: Writer, &(title, kinds, lengths, texts, lent): &Asked) -> Vec<u8> {
+    let mut buffer = vec![0xEE; lent];
+    let lists = Lists {
+        texts,
+        lengths,
+        kinds,
+    };
+    let written = writer.write(&mut buffer, lists);
+    let buffer: String = buffer.iter().map(|byte| format!("{byte:02X}")).collect();
+    format!("{title}: {} {} [{buffer}]", written.answer, written.length).into_bytes()
+}
+
+#[test]
+fn written() {
+    let sans = WRITTEN_SANS.iter().map(|line| asked(Writer::San, line));
+    let records = WRITTEN_RECORDS
+        .iter()
+        .map(|line| asked(Writer::Records, line));
+    let lines: Vec<Vec<u8>> = sans.chain(records).collect();
+    stored("written", &lines);
 }
