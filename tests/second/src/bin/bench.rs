@@ -1,16 +1,17 @@
 //! Measures the time of one verdict through the archive and in this crate, on
-//! the same inputs in one run, and of paging through a SAN. A measurement and
-//! not a test: it fails only where the two answers differ.
+//! the same inputs in one run, and of paging through a SAN and of writing. A
+//! measurement and not a test: it fails only where the two answers differ.
 //!
 //! One verdict is one call: `beckethand_answer` for the archive, `verdict`,
 //! with all five numbers, for this crate.
 
 use second::archive::{self, Inputs};
-use second::generate::Case;
+use second::generate::{Case, Job};
 use second::longest;
 use second::records::kind::{DNS, SRV, URI};
 use second::tree::*;
-use second::{Viewer, Which};
+use second::{Viewer, Which, Writer};
+use std::cell::RefCell;
 use std::hint::black_box;
 use std::time::{Duration, Instant};
 
@@ -47,6 +48,12 @@ fn main() {
             line(&format!("{names:5} {references:5} {size} bytes"), &case.1);
         }
     }
+    paging();
+    writing();
+}
+
+/// The time of paging through a SAN.
+fn paging() {
     println!("\npaging through a SAN of dNSNames to its end, ns in all");
     heading();
     for names in [2, 40, 400] {
@@ -65,6 +72,42 @@ fn main() {
         };
         both(&format!("{names:5}"), theirs, ours);
     }
+}
+
+/// The time of writing a SAN and of writing records.
+fn writing() {
+    println!("\nwriting dNSNames, SRVNames and URIs, or 16 records of them, ns in all");
+    heading();
+    for names in [3, 400] {
+        let mut job = Job::new(Writer::San);
+        for index in 0..names {
+            let kind = kind(Form::Mixed, index);
+            job.push(kind, &[&text(kind, &domain(index))]);
+        }
+        write_line(&format!("{names:5}"), &job);
+    }
+    let mut job = Job::new(Writer::Records);
+    for index in 0..16 {
+        let kind = kind(Form::Mixed, index);
+        job.push(kind, &[service(kind), &domain(index)]);
+    }
+    write_line(&format!("{:5} {:5}", "", 16), &job);
+}
+
+/// Measures how long a list takes to be written.
+fn write_line(what: &str, job: &Job) {
+    let lent = || RefCell::new(vec![0; job.writer.longest()]);
+    let (their_buffer, our_buffer) = (lent(), lent());
+    let theirs = || {
+        let buffer = &mut their_buffer.borrow_mut();
+        archive::write(job.writer, buffer, black_box(job.lists())).length as u32
+    };
+    let ours = || {
+        let buffer = &mut our_buffer.borrow_mut();
+        job.writer.write(buffer, black_box(job.lists())).length as u32
+    };
+    assert_ne!(ours(), 0, "{what}: refused");
+    both(what, theirs, ours);
 }
 
 /// The rows that are shown step by step from position 0.
@@ -115,11 +158,20 @@ fn service(kind: u8) -> &'static [u8] {
     }
 }
 
-fn entry(kind: u8, domain: &[u8]) -> Node {
+fn text(kind: u8, domain: &[u8]) -> Vec<u8> {
     match kind {
-        SRV => srv_name(&[b"_imaps.", domain].concat()),
-        URI => uri_name(&[b"https://", domain].concat()),
-        _ => dns_name(domain),
+        SRV => [b"_imaps.", domain].concat(),
+        URI => [b"https://", domain].concat(),
+        _ => domain.to_vec(),
+    }
+}
+
+fn entry(kind: u8, domain: &[u8]) -> Node {
+    let text = text(kind, domain);
+    match kind {
+        SRV => srv_name(&text),
+        URI => uri_name(&text),
+        _ => dns_name(&text),
     }
 }
 
