@@ -2,6 +2,7 @@
 //! grammar. A node can also be written wrongly on purpose.
 
 use crate::general_name::SRV_NAME_OID;
+use crate::records::kind::{SRV, URI};
 use crate::records::RECORD;
 use crate::subject::COMMON_NAME_OID;
 
@@ -149,6 +150,15 @@ pub fn other_name(oid: &[u8], inner: Node) -> Node {
 
 pub fn srv_name(text: &[u8]) -> Node {
     other_name(&SRV_NAME_OID, bytes(0x16, text))
+}
+
+/// The GeneralName of a text whose kind is numbered as in a record.
+pub fn general_name(kind: u8, text: &[u8]) -> Node {
+    match kind {
+        SRV => srv_name(text),
+        URI => uri_name(text),
+        _ => dns_name(text),
+    }
 }
 
 /// The subject: "tag 30, zero or more sets (31)".

@@ -9,7 +9,7 @@ use second::generate::{self, boundary, Job, Random};
 use second::records::kind::{CN, DNS, SRV, URI};
 use second::records::{References, RECORD};
 use second::text::{self, is_domain, is_scheme};
-use second::tree::{self, dns_name, srv_name, uri_name, Node};
+use second::tree::{self, dns_name, srv_name, uri_name};
 use second::{record, san, write_records, write_san, Lists, Writer, Written};
 
 /// What stands in a buffer before.
@@ -559,14 +559,9 @@ fn bytes_of(job: &Job) -> Vec<u8> {
             .flat_map(|(&kind, texts)| tree::record(kind, texts[0], texts[1]))
             .collect();
     }
-    let node = |(kind, text): (&u8, &&[u8])| -> Node {
-        match *kind {
-            DNS => dns_name(text),
-            SRV => srv_name(text),
-            _ => uri_name(text),
-        }
-    };
-    tree::san(job.kinds.iter().zip(&texts).map(node).collect()).write()
+    let names = job.kinds.iter().zip(texts);
+    let names = names.map(|(&kind, text)| tree::general_name(kind, text));
+    tree::san(names.collect()).write()
 }
 
 /// Holds a job to the literal reading, with the buffers that `compare` lends.

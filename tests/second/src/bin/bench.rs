@@ -167,12 +167,7 @@ fn text(kind: u8, domain: &[u8]) -> Vec<u8> {
 }
 
 fn entry(kind: u8, domain: &[u8]) -> Node {
-    let text = text(kind, domain);
-    match kind {
-        SRV => srv_name(&text),
-        URI => uri_name(&text),
-        _ => dns_name(&text),
-    }
+    general_name(kind, &text(kind, domain))
 }
 
 /// A certificate of this many names, checked for this many references.

@@ -7,7 +7,7 @@ use crate::examples::domain_of;
 use crate::longest;
 use crate::records::kind::{CN, DNS, SRV, URI};
 use crate::text::{has_two_labels, is_dns_id, is_domain, is_scheme, is_service, is_uri_id, srv_id};
-use crate::tree::{content_of, dns_name, srv_name, uri_name};
+use crate::tree::{content_of, general_name};
 use crate::writer::Writer;
 
 /// A name that can still be changed: its kind, and its text or its two texts.
@@ -18,15 +18,9 @@ struct Name {
 }
 
 impl Name {
-    /// The name in a SAN, as many bytes as it has there.
+    /// How many bytes the name has in a SAN.
     fn size(&self) -> usize {
-        let text = &self.texts[0];
-        let node = match self.kind {
-            SRV => srv_name(text),
-            URI => uri_name(text),
-            _ => dns_name(text),
-        };
-        node.write().len()
+        general_name(self.kind, &self.texts[0]).write().len()
     }
 }
 

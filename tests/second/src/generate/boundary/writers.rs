@@ -7,7 +7,7 @@ use crate::generate::Job;
 use crate::longest;
 use crate::records::kind::{CN, DNS, SRV, URI};
 use crate::records::MOST_RECORDS;
-use crate::tree::content_of;
+use crate::tree::{content_of, general_name};
 use crate::writer::Writer;
 
 /// A job and what it is a job of.
@@ -90,36 +90,16 @@ fn alone(take: Taker, kind: u8, text: &[u8]) {
     }
 }
 
-/// SANs whose whole is next to 127 and 255 bytes, with a last name of each kind.
+/// Two names of every length of the first, so that the whole has every length
+/// next to 127 and 255.
 fn san_sizes(take: Taker) {
-    for size in (120..=140).chain(248..=270) {
-        for (kind, text) in NAMES {
-            for first in 1..size {
-                let mut names = vec![(DNS, domain_of(first))];
-                names.push((kind, text.to_vec()));
-                let job = Job::san(names.iter().map(|(kind, text)| (*kind, text.as_slice())));
-                if written(&job) == size {
-                    take((format!("SAN of {size}, ends in kind {kind}"), job));
-                }
-            }
+    for (kind, text) in NAMES {
+        for first in 1..=253 {
+            let first = domain_of(first);
+            let job = Job::san([(DNS, first.as_slice()), (kind, text)]);
+            take((format!("{} bytes before kind {kind}", first.len()), job));
         }
     }
-}
-
-/// The bytes that a SAN of dNSNames and URIs of any size, and of SRVNames of few
-/// bytes, has.
-fn written(job: &Job) -> usize {
-    let name = |(kind, length): (&u8, &usize)| match kind {
-        &SRV => length + 16,
-        _ => element(*length),
-    };
-    element(job.kinds.iter().zip(&job.lengths).map(name).sum())
-}
-
-fn element(content: usize) -> usize {
-    (content + 2..)
-        .find(|&size| content_of(size) == content)
-        .unwrap_or_default()
 }
 
 /// SANs next to the limit: of one name, of two with the longer one first or
@@ -128,7 +108,7 @@ fn san_limits(take: Taker) {
     for size in longest::SAN - 5..=longest::SAN + 6 {
         let room = content_of(size);
         for (kind, text) in NAMES {
-            let short = written(&Job::san([(kind, text)])) - 2;
+            let short = general_name(kind, text).write().len();
             for count in [0, 1, 2, 16, 17, 255, 256, 300] {
                 let long = uri_text(content_of(room - count * short));
                 let crowd = vec![(kind, text); count];
