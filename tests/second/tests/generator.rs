@@ -2,12 +2,15 @@
 //! kind of case.
 
 use second::constraints::{EXCLUDED, PERMITTED};
-use second::generate::{case, Case};
+use second::generate::buffers::buffers;
+use second::generate::lists::jobs;
+use second::generate::{case, Case, Job, Random};
 use second::name::kind::{CN as CN_ROW, DNS as DNS_ROW, SRV as SRV_ROW, URI as URI_ROW};
 use second::records::kind::{CN, DNS, SRV, URI};
 use second::records::RECORD;
-use second::text::is_domain;
-use second::{answer, list, record, san, subject, Outcome, Which};
+use second::text::{is_domain, is_uri_id};
+use second::tree::{general_name, san as tree_san};
+use second::{answer, list, record, san, subject, Outcome, Which, Writer};
 
 const CASES: u64 = 40_000;
 
@@ -252,5 +255,248 @@ fn the_two_labels_of_request_1_are_tried() {
     }
     for (count, (what, _, least, _)) in counts.into_iter().zip(NARROWED) {
         assert!(count >= least, "{what}: {count} of {CASES}");
+    }
+}
+
+#[test]
+fn the_same_seed_gives_the_same_jobs() {
+    for number in 0..500 {
+        assert_eq!(jobs(3, number), jobs(3, number));
+        assert_ne!(jobs(3, number), jobs(4, number));
+    }
+}
+
+/// The answers of each writer, for the buffers that `compare` lends.
+#[test]
+fn every_answer_of_a_writer_is_frequent() {
+    let mut answers = [[0; 25]; 2];
+    let mut random = Random::new(7, 0);
+    for number in 0..CASES {
+        for job in jobs(7, number) {
+            for lent in buffers(&mut random, &job) {
+                let written = job.writer.write(&mut vec![0; lent], job.lists());
+                answers[job.writer as usize][written.answer as usize] += 1;
+            }
+        }
+    }
+    for (writer, answers) in Writer::ALL.into_iter().zip(answers) {
+        for answer in [0, 21, 22, 23, 24] {
+            let count = answers[answer];
+            assert!(count >= CASES / 200, "{writer:?}, {answer}: {count}");
+        }
+    }
+}
+
+/// What a job is.
+struct Told<'a> {
+    job: &'a Job,
+    /// The kinds with their texts, where the lists agree.
+    names: Vec<(u8, Vec<&'a [u8]>)>,
+    /// The places of those that are refused alone.
+    bad: Vec<usize>,
+    /// The bytes that the result has where none is bad.
+    size: usize,
+}
+
+impl<'a> Told<'a> {
+    fn new(job: &'a Job) -> Self {
+        let each = job.writer.texts_each();
+        let texts = job.cut().unwrap_or_default();
+        let texts = texts.chunks(each).map(<[&[u8]]>::to_vec);
+        let mut names: Vec<_> = job.kinds.iter().copied().zip(texts).collect();
+        if job.lengths.len() != each * job.kinds.len() || names.len() != job.kinds.len() {
+            names.clear();
+        }
+        let is_bad = |place: &usize| {
+            let (kind, texts) = &names[*place];
+            let mut alone = Job::new(job.writer);
+            alone.push(*kind, texts);
+            job.writer.write(&mut [], alone.lists()).answer == answer::UNFIT
+        };
+        let bad: Vec<usize> = (0..names.len()).filter(is_bad).collect();
+        let size = match job.writer {
+            Writer::Records => RECORD * names.len(),
+            Writer::San => {
+                let name = |(kind, texts): &(u8, Vec<&[u8]>)| general_name(*kind, texts[0]);
+                tree_san(names.iter().map(name).collect()).write().len()
+            }
+        };
+        Told {
+            job,
+            names,
+            bad,
+            size,
+        }
+    }
+
+    /// The sum of the lengths less the bytes of the texts.
+    fn over(&self) -> i128 {
+        let sum: i128 = self.job.lengths.iter().map(|&length| length as i128).sum();
+        sum - self.job.texts.len() as i128
+    }
+
+    /// How many lengths there are more than the kinds ask for.
+    fn lengths_more(&self) -> isize {
+        let asked = self.job.kinds.len() * self.job.writer.texts_each();
+        self.job.lengths.len() as isize - asked as isize
+    }
+
+    /// Whether a text in this place beside its kind passes.
+    fn any(&self, place: usize, test: impl Fn(u8, &[u8]) -> bool) -> bool {
+        self.names
+            .iter()
+            .any(|(kind, texts)| test(*kind, texts[place]))
+    }
+}
+
+/// A kind of job that request 4/13 decides: what it is, how often it must be
+/// there for each of the two writers, and how it is told.
+type Decided = (&'static str, [u32; 2], fn(&Told) -> bool);
+
+const LISTS: [Decided; 25] = [
+    ("no kinds, with texts", [200; 2], |told| {
+        told.job.kinds.is_empty() && !told.job.texts.is_empty()
+    }),
+    ("no kinds and no texts, with lengths", [200; 2], |told| {
+        told.job.kinds.is_empty() && told.job.texts.is_empty() && !told.job.lengths.is_empty()
+    }),
+    ("nothing at all", [200; 2], |told| {
+        told.job == &Job::new(told.job.writer)
+    }),
+    ("a length more", [200; 2], |told| told.lengths_more() == 1),
+    ("a length less", [200; 2], |told| told.lengths_more() == -1),
+    ("services of no bytes left out", [0, 100], |told| {
+        let records = told.job.kinds.iter();
+        let zeros = records.filter(|&&kind| kind == DNS || kind == CN).count();
+        zeros > 0 && told.lengths_more() == -(zeros as isize) && told.over() == 0
+    }),
+    ("a byte left over", [200; 2], |told| told.over() == -1),
+    ("a byte too few", [200; 2], |told| told.over() == 1),
+    ("a sum that comes round", [300; 2], |told| {
+        told.lengths_more() == 0 && told.over() == 1 << 64
+    }),
+    ("2^16 too much", [50; 2], |told| told.over() == 1 << 16),
+    ("2^32 too much", [50; 2], |told| told.over() == 1 << 32),
+    ("2^63 too much", [50; 2], |told| told.over() == 1 << 63),
+    ("a length of 2^64 - 1", [200; 2], |told| {
+        told.job.lengths.contains(&usize::MAX)
+    }),
+    ("kind 0", [100; 2], |told| told.any(0, |kind, _| kind == 0)),
+    ("kind 4", [100, 1_000], |told| {
+        told.any(0, |kind, _| kind == 4)
+    }),
+    ("kind 5", [100; 2], |told| told.any(0, |kind, _| kind == 5)),
+    ("an empty text", [200, 1_000], |told| {
+        told.any(0, |_, text| text.is_empty())
+    }),
+    ("a byte above 127 in a URI-ID", [300, 0], |told| {
+        told.any(0, |kind, text| {
+            kind == URI && is_uri_id(text) && !text.is_ascii()
+        })
+    }),
+    ("a byte above 127", [500; 2], |told| {
+        told.any(0, |_, text| !text.is_ascii())
+    }),
+    ("only the first of several bad", [500; 2], |told| {
+        told.names.len() > 1 && told.bad == [0]
+    }),
+    ("only the last of several bad", [500; 2], |told| {
+        told.names.len() > 1 && told.bad == [told.names.len() - 1]
+    }),
+    ("over the limit", [150, 500], |told| {
+        told.bad.is_empty() && told.size > told.job.writer.longest()
+    }),
+    ("over the limit, one of them bad", [50, 200], |told| {
+        told.bad.len() == 1 && told.size > told.job.writer.longest()
+    }),
+    ("at the limit", [50, 500], |told| {
+        told.bad.is_empty() && told.size == told.job.writer.longest()
+    }),
+    ("many, one of them bad", [50; 2], |told| {
+        told.names.len() > 16 && told.bad.len() == 1
+    }),
+];
+
+/// The same of one writer alone.
+const SIZES: [Decided; 20] = [
+    ("content of 127 bytes", [100, 0], |told| told.size == 129),
+    ("content of 128 bytes", [100, 0], |told| told.size == 131),
+    ("content of 255 bytes", [100, 0], |told| told.size == 258),
+    ("content of 256 bytes", [100, 0], |told| told.size == 260),
+    ("SAN of 16,383 bytes", [40, 0], |told| told.size == 16_383),
+    ("SAN of 16,385 bytes", [40, 0], |told| told.size == 16_385),
+    ("SRVName of 113 or 114", [60, 0], |told| {
+        told.any(0, |kind, text| {
+            kind == SRV && [113, 114].contains(&text.len())
+        })
+    }),
+    ("SRVName of 125 to 128", [150, 0], |told| {
+        told.any(0, |kind, text| {
+            kind == SRV && (125..=128).contains(&text.len())
+        })
+    }),
+    ("SRVName of 239 or 240", [60, 0], |told| {
+        told.any(0, |kind, text| {
+            kind == SRV && [239, 240].contains(&text.len())
+        })
+    }),
+    ("SRVName of 252 to 256", [150, 0], |told| {
+        told.any(0, |kind, text| {
+            kind == SRV && (252..=256).contains(&text.len())
+        })
+    }),
+    ("SRVName of 317 or 318", [60, 0], |told| {
+        told.any(0, |kind, text| {
+            kind == SRV && [317, 318].contains(&text.len())
+        })
+    }),
+    ("URI over 1,000 bytes", [300, 0], |told| {
+        told.any(0, |kind, text| kind == URI && text.len() > 1_000)
+    }),
+    ("over 255 good names", [80, 0], |told| {
+        told.bad.is_empty() && told.names.len() > 255
+    }),
+    ("over 255, the last bad", [15, 0], |told| {
+        told.names.len() > 255 && told.bad == [told.names.len() - 1]
+    }),
+    ("17 records, the last bad", [0, 30], |told| {
+        told.names.len() == 17 && told.bad == [16]
+    }),
+    ("service of 62 to 64 bytes", [0, 300], |told| {
+        told.any(0, |_, text| (62..=64).contains(&text.len()))
+    }),
+    ("domain of 252 to 254 bytes", [0, 300], |told| {
+        told.any(1, |_, text| (252..=254).contains(&text.len()))
+    }),
+    ("service of 256 bytes and more", [0, 300], |told| {
+        told.any(0, |_, text| text.len() >= 256)
+    }),
+    ("domain of 256 bytes and more", [0, 300], |told| {
+        told.any(1, |_, text| text.len() >= 256)
+    }),
+    ("over 17 records", [0, 200], |told| {
+        told.names.len() > 17 && told.bad.is_empty()
+    }),
+];
+
+#[test]
+fn the_lists_of_request_4_are_tried() {
+    let decided: Vec<Decided> = LISTS.into_iter().chain(SIZES).collect();
+    let mut counts = vec![[0; 2]; decided.len()];
+    for number in 0..CASES {
+        for job in jobs(7, number) {
+            let told = Told::new(&job);
+            for (counts, (_, leasts, is)) in counts.iter_mut().zip(&decided) {
+                let writer = job.writer as usize;
+                counts[writer] += u32::from(leasts[writer] > 0 && is(&told));
+            }
+        }
+    }
+    for (counts, (what, leasts, _)) in counts.into_iter().zip(decided) {
+        let enough = counts
+            .iter()
+            .zip(&leasts)
+            .all(|(count, least)| count >= least);
+        assert!(enough, "{what}: {counts:?} of {CASES}");
     }
 }

@@ -9,8 +9,8 @@ use crate::writer::Writer;
 const HEADERS: usize = 24;
 
 /// Lengths of buffers for a job that is written: exactly long enough, longer,
-/// one byte too short, and now and then much shorter or empty. For one that is
-/// refused: as long as its result might be, and now and then any length or none.
+/// one byte too short, and now and then much shorter, empty or much longer. For
+/// one that is refused: as long as its result might be, and now and then others.
 pub fn buffers(random: &mut Random, job: &Job) -> Vec<usize> {
     let mut scratch = vec![0; job.writer.longest()];
     let written = job.writer.write(&mut scratch, job.lists());
@@ -28,6 +28,10 @@ pub fn buffers(random: &mut Random, job: &Job) -> Vec<usize> {
     }
     if random.one_in(8) {
         lengths.push(0);
+    }
+    if random.one_in(256) {
+        // So long that 16 bits take it for a short one.
+        lengths.push((1 << 16) + random.below(8));
     }
     lengths
 }

@@ -142,7 +142,7 @@ fn many(random: &mut Random) -> Vec<Name> {
 /// their form ends at.
 fn turns(kind: u8) -> &'static [usize] {
     match kind {
-        DNS => &[1, 126, 127, 128, 129, 252, 253, 254],
+        DNS => &[1, 126, 127, 128, 129, 252, 253, 254, 255],
         SRV => &[
             4, 112, 113, 114, 115, 124, 125, 126, 127, 128, 129, 238, 239, 240, 241, 251, 252, 253,
             254, 255, 256, 316, 317, 318,
@@ -156,6 +156,9 @@ const SHORTEST_URI: usize = 9;
 /// A name whose text has this many bytes.
 fn sized(random: &mut Random, kind: u8, length: usize) -> Name {
     let text = match kind {
+        DNS if length > 50 && random.one_in(3) => {
+            [b"*.", domain_of(length - 2).as_slice()].concat()
+        }
         DNS => domain_of(length),
         SRV => {
             // Service and domain share what "_" and "." leave.
@@ -254,6 +257,7 @@ fn spoil_name(random: &mut Random, pool: &Pool, names: &mut [Name]) {
     match random.below(8) {
         0 => name.kind = *random.pick(&[0, 4, 5, 6, 128, 129, 255]),
         1 => name.kind = *random.pick(&[DNS, SRV, URI, CN]),
+        2 if random.one_in(3) => name.texts.iter_mut().for_each(Vec::clear),
         2 => name.texts[text].clear(),
         3..=4 => past_ascii(random, name),
         5 => name.texts[text] = crooked(random, pool, name.kind),
@@ -285,7 +289,7 @@ fn crooked(random: &mut Random, pool: &Pool, kind: u8) -> Vec<u8> {
 
 /// Spoils the lists: they disagree, or are empty.
 fn spoil_lists(random: &mut Random, job: &mut Job) {
-    match random.below(16) {
+    match random.below(18) {
         0 => job.kinds.clear(),
         1 => *job = Job::new(job.writer),
         2 => {
@@ -294,10 +298,11 @@ fn spoil_lists(random: &mut Random, job: &mut Job) {
         }
         3 => job.lengths.insert(random.place(job.lengths.len()), 0),
         4 => drop(job.lengths.pop()),
-        5 => job.kinds.push(*random.pick(&[DNS, SRV, URI])),
-        6 => drop(job.kinds.pop()),
-        7 => job.texts.push(*random.pick(b"a.b")),
-        8 => drop(job.texts.pop()),
+        5 => job.lengths.retain(|&length| length != 0),
+        6 => job.kinds.push(*random.pick(&[DNS, SRV, URI])),
+        7 => drop(job.kinds.pop()),
+        8 => job.texts.push(*random.pick(b"a.b")),
+        9 => drop(job.texts.pop()),
         _ => spoil_lengths(random, &mut job.lengths),
     }
 }

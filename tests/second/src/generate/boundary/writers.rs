@@ -1,14 +1,15 @@
 //! Request 4/13: a table of jobs for the writers, around every limit that they
 //! have.
 
+mod disagreeing;
+mod fields;
+
 use super::{mixed, texts};
 use crate::examples::domain_of;
 use crate::generate::Job;
 use crate::longest;
 use crate::records::kind::{CN, DNS, SRV, URI};
-use crate::records::MOST_RECORDS;
 use crate::tree::{content_of, general_name};
-use crate::writer::Writer;
 
 /// A job and what it is a job of.
 pub type Line = (String, Job);
@@ -24,11 +25,11 @@ pub fn each(take: Taker) {
     name_counts(take);
     every_kind(take);
     every_byte(take);
+    deep_bytes(take);
     small_texts(take);
-    disagreeing(take);
-    two_faults(take);
-    record_counts(take);
-    record_fields(take);
+    misspelled(take);
+    disagreeing::each(take);
+    fields::each(take);
 }
 
 /// A name of each kind of a SAN.
@@ -68,6 +69,10 @@ fn text_lengths(take: Taker) {
                 alone(take, SRV, &srv_text(length, service));
             }
         }
+    }
+    for length in 58..=68 {
+        alone(take, SRV, &[b"_", mixed(length).as_slice(), b".b"].concat());
+        alone(take, URI, &[mixed(length).as_slice(), b"://b"].concat());
     }
     const LONG: [usize; 24] = [
         511, 512, 1023, 1024, 4095, 4096, 8191, 8192, 16_370, 16_371, 16_372, 16_373, 16_374,
@@ -134,6 +139,14 @@ fn name_counts(take: Taker) {
         crowd(take, count, (URI, b"h://b"));
         crowd(take, count, (SRV, b"_m.b"));
     }
+    for count in [2, 4, 5, 16, 17, 40] {
+        for length in [113, 114, 125, 126, 127, 128, 239, 240, 252, 253, 255, 256] {
+            for (kind, text) in [(SRV, srv_text(length, 9)), (URI, uri_text(length))] {
+                let names = vec![(kind, text.as_slice()); count];
+                take((format!("{count} names of {length} bytes"), Job::san(names)));
+            }
+        }
+    }
     // What a narrower number would take for less than the limit.
     for count in [21_845, 21_846, 21_860, 32_768] {
         crowd(take, count, (DNS, b"b"));
@@ -144,7 +157,13 @@ fn name_counts(take: Taker) {
 fn crowd(take: Taker, count: usize, name: (u8, &[u8])) {
     let good = vec![name; count];
     take((format!("{count} names"), Job::san(good.clone())));
-    let bad: [(u8, &[u8]); 4] = [(DNS, b"-"), (SRV, b"_m."), (URI, b"h://a\xFFb"), (4, b"b")];
+    let bad: [(u8, &[u8]); 5] = [
+        (DNS, b"-"),
+        (DNS, b""),
+        (SRV, b"_m."),
+        (URI, b"h://b/\xFF"),
+        (4, b"b"),
+    ];
     for place in [0, count / 2, count - 1] {
         for bad in bad {
             let mut names = good.clone();
@@ -211,6 +230,28 @@ fn changed(text: &[u8], value: u8) -> Vec<Vec<u8>> {
     (0..=text.len()).map(put).collect()
 }
 
+/// Long texts with a byte at a place far behind, in the part of a URI that may
+/// have any byte, and in a domain.
+fn deep_bytes(take: Taker) {
+    const PLACES: [usize; 16] = [
+        0, 1, 7, 8, 15, 16, 31, 32, 63, 64, 127, 128, 240, 255, 256, 4096,
+    ];
+    for place in PLACES {
+        for value in [0x00, 0x7F, 0x80, 0xC3, 0xFF] {
+            let mut run = vec![b'x'; place + 2];
+            run[place] = value;
+            let user = [b"h://", run.as_slice(), b"@a.b"].concat();
+            let path = [b"h://a.b/", run.as_slice()].concat();
+            let last = [b"h://a.b#", &run[..=place]].concat();
+            let mut domain = domain_of(place + 2);
+            domain[place] = value;
+            for (kind, text) in [(URI, user), (URI, path), (URI, last), (DNS, domain)] {
+                alone(take, kind, &text);
+            }
+        }
+    }
+}
+
 /// Every small text as a name of each kind, and as a record's texts.
 fn small_texts(take: Taker) {
     for text in texts(b"aZ.-*_7", 4) {
@@ -233,226 +274,29 @@ fn small_texts(take: Taker) {
     }
 }
 
-/// Lists that agree, changed so that they do not, or agree in another way.
-fn disagreeing(take: Taker) {
-    for count in 0..=NAMES.len() {
-        disagree(take, &Job::san(NAMES.into_iter().take(count)));
-    }
-    for count in 0..=RECORDS.len() {
-        disagree(take, &Job::records(RECORDS.into_iter().take(count)));
-    }
-    // Lists of the other writer.
-    let names = Job::san(NAMES);
-    let records = Job::records(RECORDS);
-    for (writer, job) in [(Writer::Records, names), (Writer::San, records)] {
-        disagree(take, &Job { writer, ..job });
-    }
-}
+/// Texts that are a name for one byte or one mark more or less, and some that
+/// are one.
+const MISSPELLED: [&str; 3] = [
+    "a.b.|.a.b|a..b|a b.c|a_b.c|-a.b|a-.b|a.-b|a.b-|*a.b.c|a*.b.c|*.*.b.c|*.a.7|*..b.c|*.b.c.|\
+     **.b.c|xn--p1ai.b|4.example|a.7b|a.b | a.b|m.b.c|_m.b.c|sip://a.b",
+    "_m._tcp.b.c|__m.b.c|_m|_m.|_.b|_.b.c|_m..b|_-m.b|_m-.b|_m.b.c.|_m.*.b.c|*._m.b.c|_7.b.c|\
+     _m.b.7|_xmpp-server.b.c|_x--y.b|_m+n.b|_m.b_c|_m.b.c |_h://a.b",
+    "sip:a.b|sip:/a.b|sip//a.b|://a.b|9h://a.b|h://|h:///a.b|h://@|h://@a.b|h://:@a.b|\
+     h://u@v@a.b|h://a.b:|h://a.b:8a|h://a.b:99999999999999999999|h://a.b:1:2|h://[::1]|\
+     h://a.b.|h://a.b?q|h://a.b#f@x|h://%61.b|h://a.b\\x|h+x.9-://a.b|h://*.b.c|h://10.4.0.7",
+];
 
-/// Each list longer and shorter, each length another one.
-fn disagree(take: Taker, job: &Job) {
-    let what = format!("{} kinds of {:?}", job.kinds.len(), job.writer);
-    let mut line = |change: &str, job: Job| take((format!("{what}, {change}"), job));
-    line("as they are", job.clone());
-    for (change, job) in other_lists(job) {
-        line(change, job);
-    }
-    for place in 0..job.lengths.len() {
-        for length in other_lengths(job.lengths[place]) {
-            let mut job = job.clone();
-            job.lengths[place] = length;
-            line(&format!("length {place} is {length}"), job);
+/// Misspelled texts as names of each kind, and as a record's texts.
+fn misspelled(take: Taker) {
+    for text in MISSPELLED.iter().flat_map(|texts| texts.split('|')) {
+        let text = text.as_bytes();
+        for kind in [DNS, SRV, URI] {
+            alone(take, kind, text);
         }
-        for other in (0..job.lengths.len()).filter(|&other| other != place) {
-            for far in [
-                1,
-                2,
-                256,
-                1 << 16,
-                1 << 32,
-                1 << 63,
-                usize::MAX - 1,
-                usize::MAX,
-            ] {
-                let mut job = job.clone();
-                job.lengths[place] = job.lengths[place].wrapping_add(far);
-                job.lengths[other] = job.lengths[other].wrapping_sub(far);
-                line(&format!("{far} from length {other} to {place}"), job);
-            }
-        }
-    }
-}
-
-/// The job with one of its lists longer, shorter, empty or doubled.
-fn other_lists(job: &Job) -> Vec<(&'static str, Job)> {
-    let with = |change: fn(&mut Job)| {
-        let mut job = job.clone();
-        change(&mut job);
-        job
-    };
-    vec![
-        ("no texts", with(|job| job.texts.clear())),
-        ("no lengths", with(|job| job.lengths.clear())),
-        ("no kinds", with(|job| job.kinds.clear())),
-        ("a byte more", with(|job| job.texts.push(b'a'))),
-        ("a byte less", with(|job| shorten(&mut job.texts))),
-        ("a length more", with(|job| job.lengths.push(0))),
-        ("a length first", with(|job| job.lengths.insert(0, 0))),
-        ("two lengths more", with(|job| job.lengths.extend([0, 0]))),
-        ("a length of 1 more", with(|job| job.lengths.push(1))),
-        ("a length less", with(|job| shorten(&mut job.lengths))),
-        ("a kind more", with(|job| job.kinds.push(1))),
-        ("a kind less", with(|job| shorten(&mut job.kinds))),
-        (
-            "lengths doubled",
-            with(|job| job.lengths.extend(job.lengths.clone())),
-        ),
-        (
-            "kinds doubled",
-            with(|job| job.kinds.extend(job.kinds.clone())),
-        ),
-        (
-            "texts doubled",
-            with(|job| job.texts.extend(job.texts.clone())),
-        ),
-    ]
-}
-
-fn shorten<T>(list: &mut Vec<T>) {
-    list.pop();
-}
-
-/// Other lengths: next to this one, and ones that fewer bits take for it.
-fn other_lengths(length: usize) -> Vec<usize> {
-    let near = [0, length.wrapping_sub(1), length + 1, 2 * length];
-    let far = [usize::MAX, usize::MAX - 1, 1 << 63, 1 << 32];
-    let round = (3..64).map(|bits| length.wrapping_add(1 << bits));
-    near.into_iter().chain(far).chain(round).collect()
-}
-
-/// Two reasons to refuse at once, for the order of the answers; the buffers that
-/// are lent are a third.
-fn two_faults(take: Taker) {
-    let long = uri_text(70_000);
-    let over: [Vec<(u8, &[u8])>; 3] = [
-        vec![(URI, &long)],
-        vec![(DNS, b"b"); 6_000],
-        vec![(URI, &long[..16_377])],
-    ];
-    let bad: [(u8, &[u8]); 7] = [
-        (DNS, b"-"),
-        (DNS, b""),
-        (SRV, b"m.b"),
-        (URI, b"h://a.b/\xC3\xA9"),
-        (URI, b"h:/a.b"),
-        (0, b"b"),
-        (4, b"b"),
-    ];
-    for names in over {
-        for bad in bad {
-            for place in [0, 1, names.len()] {
-                let mut names = names.clone();
-                names.insert(place, bad);
-                take((
-                    "over the limit, with a bad text".to_string(),
-                    Job::san(names),
-                ));
-            }
-        }
-        for (change, job) in other_lists(&Job::san(names.clone())) {
-            take((format!("over the limit, {change}"), job));
-        }
-    }
-    for (change, job) in other_lists(&Job::records([RECORDS[0]; 17])) {
-        take((format!("17 records, {change}"), job));
-    }
-}
-
-/// 1 to 20 records, and more, all good, and with a bad one at each place or at
-/// some. 205 and 410 records are few in 16 bits.
-fn record_counts(take: Taker) {
-    const MORE: [usize; 13] = [31, 32, 33, 63, 64, 204, 205, 206, 255, 256, 257, 272, 410];
-    let bad: [(u8, &[u8], &[u8]); 5] = [
-        (DNS, b"", b"b"),
-        (DNS, b"m", b"a.b"),
-        (SRV, b"", b"a.b"),
-        (5, b"", b"a.b"),
-        (CN, b"", b"*.b.c"),
-    ];
-    for count in (1..=20).chain(MORE) {
-        for record in RECORDS {
-            let good = vec![record; count];
-            take((format!("{count} records"), Job::records(good.clone())));
-            let places = (0..count).filter(|place| count <= 20 || place % 16 == count % 16);
-            for place in places.chain([count - 1]) {
-                let mut records = good.clone();
-                records[place] = bad[(place + count) % bad.len()];
-                let what = format!("{count} records, {place} is bad");
-                take((what, Job::records(records)));
-            }
-        }
-    }
-    let mut all = RECORDS.into_iter().cycle();
-    let mixed: Vec<_> = all.by_ref().take(MOST_RECORDS).collect();
-    take(("16 records of all kinds".to_string(), Job::records(mixed)));
-}
-
-/// Records of every kind with services and domains of every length near a
-/// limit, and of lengths that a byte takes for such a one.
-fn record_fields(take: Taker) {
-    let few = 0..=8;
-    let field = 58..=68;
-    let byte = 125..=130;
-    let services = few.clone().chain(field.clone()).chain(byte.clone());
-    let round = 250..=330;
-    let far = [
-        511, 512, 515, 574, 575, 65_535, 65_536, 65_537, 65_539, 65_598,
-    ];
-    for length in services.chain(round.clone()).chain(far) {
-        let letters = vec![b's'; length];
-        let with_digit = mixed(length.max(1));
-        for kind in [DNS, SRV, URI, CN] {
-            for service in [&letters, &with_digit] {
-                let what = format!("kind {kind}, service of {length}");
-                let record = (kind, service.as_slice(), b"a.b".as_slice());
-                take((what, Job::records([record])));
-            }
-        }
-    }
-    let domains = few.chain(field).chain(byte).chain(240..=330);
-    for length in domains.chain(far).chain([65_789, 65_790]) {
-        for domain in [domain_of(length), short_domain(length)] {
-            for (kind, service, _) in RECORDS {
-                let what = format!("kind {kind}, domain of {length}");
-                take((what, Job::records([(kind, service, domain.as_slice())])));
-            }
-        }
-    }
-    both_fields(take);
-}
-
-/// A domain of this many bytes that begins with `a.b`, so that it is one too
-/// where it is cut.
-fn short_domain(length: usize) -> Vec<u8> {
-    let mut domain = domain_of(length);
-    for (place, byte) in domain.iter_mut().zip(b"a.b") {
-        *place = *byte;
-    }
-    domain
-}
-
-/// Services and domains that fill their fields, or are longer by one, together.
-fn both_fields(take: Taker) {
-    for kind in [DNS, SRV, URI, CN] {
-        for service in [0, 1, 61, 62, 63, 64] {
-            for domain in [3, 252, 253, 254] {
-                let (service, domain) = (vec![b's'; service], short_domain(domain));
-                let what = format!("kind {kind}, {} and {}", service.len(), domain.len());
-                let record = (kind, service.as_slice(), domain.as_slice());
-                take((what.clone(), Job::records([record])));
-                let behind = [RECORDS[0], record, RECORDS[1]];
-                take((what, Job::records(behind)));
-            }
+        for (kind, service, domain) in RECORDS {
+            let what = format!("misspelled text in a record of kind {kind}");
+            take((what.clone(), Job::records([(kind, text, domain)])));
+            take((what, Job::records([(kind, service, text)])));
         }
     }
 }
