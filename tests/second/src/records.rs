@@ -33,17 +33,23 @@ pub struct Reference<'a> {
 
 impl<'a> Reference<'a> {
     /// Reads one record. "Byte 1 zero. Byte 2 service length, byte 3 domain
-    /// length. [...] Kinds 1 and 4 have service length 0. Kind 2: a service as
-    /// defined below [...] Kind 3: a URI scheme [...] The domain is as defined
-    /// below, without a wildcard." Request 1/13, of records of every kind: "a
-    /// reference record whose domain has one label is refused with 6". Request
-    /// 2/13, of what a domain is: "This holds for [...] records (6)".
-    pub(crate) fn read(record: &'a [u8]) -> Option<Self> {
+    /// length."
+    fn read(record: &'a [u8]) -> Option<Self> {
         let [kind, zero, service_length, domain_length, ..] = *record else {
             return None;
         };
         let service = field(&record[SERVICE..DOMAIN], service_length)?;
         let domain = field(&record[DOMAIN..], domain_length)?;
+        Reference::new(kind, service, domain).filter(|_| zero == 0)
+    }
+
+    /// What a record says, if it may. "Kinds 1 and 4 have service length 0. Kind
+    /// 2: a service as defined below [...] Kind 3: a URI scheme [...] The domain
+    /// is as defined below, without a wildcard." Request 1/13, of records of
+    /// every kind: "a reference record whose domain has one label is refused
+    /// with 6". Request 2/13, of what a domain is: "This holds for [...] records
+    /// (6)".
+    pub(crate) fn new(kind: u8, service: &'a [u8], domain: &'a [u8]) -> Option<Self> {
         let service_fits = match kind {
             kind::DNS | kind::CN => service.is_empty(),
             kind::SRV => text::is_service(service),
@@ -51,7 +57,7 @@ impl<'a> Reference<'a> {
             _ => false,
         };
         let domain_fits = text::is_domain(domain) && text::has_two_labels(domain);
-        let readable = zero == 0 && service_fits && domain_fits;
+        let readable = service_fits && domain_fits;
         readable.then(|| Reference {
             kind,
             service,

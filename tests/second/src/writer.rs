@@ -114,7 +114,7 @@ pub fn write_san(buffer: &mut [u8], lists: Lists<'_>) -> Written {
 pub fn write_records(buffer: &mut [u8], lists: Lists<'_>) -> Written {
     into(buffer, records_size(lists), |mut pen| {
         for (kind, [service, domain]) in lists.names() {
-            pen.bytes(&record(kind, service, domain).unwrap_or(BLANK));
+            pen.bytes(&record(kind, service, domain));
         }
     })
 }
@@ -169,13 +169,13 @@ pub(crate) fn is_name(kind: u8, text: &[u8]) -> bool {
     fits && text.is_ascii()
 }
 
-/// The size of the records: as `san_content`, and "a record whose fields can't
-/// hold its texts or that its reader refuses (22)".
+/// The size of the records, refused in the same order.
 fn records_size(lists: Lists<'_>) -> Result<usize, u32> {
     lists.judge::<2>()?;
     for (kind, [service, domain]) in lists.names() {
-        let record = record(kind, service, domain).ok_or(answer::UNFIT)?;
-        Reference::read(&record).ok_or(answer::UNFIT)?;
+        if !is_record(kind, service, domain) {
+            return Err(answer::UNFIT);
+        }
     }
     match lists.kinds.len().checked_mul(RECORD) {
         Some(size) if size <= longest::REFERENCES => Ok(size),
@@ -183,27 +183,25 @@ fn records_size(lists: Lists<'_>) -> Result<usize, u32> {
     }
 }
 
-/// "a blank record of 320 zero bytes"
-const BLANK: [u8; RECORD] = [0; RECORD];
-
-/// One record: "the latter starts from a blank record of 320 zero bytes".
-/// Document 01: "Byte 0 kind [...] Byte 2 service length, byte 3 domain length.
-/// Bytes 4 to 66 service, 67 to 319 domain, each filled with zeros." `None`
-/// where a field cannot hold its text.
-fn record(kind: u8, service: &[u8], domain: &[u8]) -> Option<[u8; RECORD]> {
-    let mut record = BLANK;
-    record[0] = kind;
-    record[2] = u8::try_from(service.len()).ok()?;
-    record[3] = u8::try_from(domain.len()).ok()?;
-    fill(&mut record[SERVICE..DOMAIN], service)?;
-    fill(&mut record[DOMAIN..], domain)?;
-    Some(record)
+/// "a record whose fields can't hold its texts or that its reader refuses (22)".
+/// Lengths and fillers of a record that is written are right, so the reader
+/// refuses it for its kind or for a text.
+fn is_record(kind: u8, service: &[u8], domain: &[u8]) -> bool {
+    let held = service.len() <= DOMAIN - SERVICE && domain.len() <= RECORD - DOMAIN;
+    held && Reference::new(kind, service, domain).is_some()
 }
 
-/// Puts a text at the start of a field.
-fn fill(field: &mut [u8], text: &[u8]) -> Option<()> {
-    field.get_mut(..text.len())?.copy_from_slice(text);
-    Some(())
+/// One record, which "starts from a blank record of 320 zero bytes". Document
+/// 01: "Byte 0 kind [...] Byte 2 service length, byte 3 domain length. Bytes 4
+/// to 66 service, 67 to 319 domain, each filled with zeros."
+fn record(kind: u8, service: &[u8], domain: &[u8]) -> [u8; RECORD] {
+    let mut record = [0; RECORD];
+    record[0] = kind;
+    record[2] = service.len() as u8;
+    record[3] = domain.len() as u8;
+    record[SERVICE..][..service.len()].copy_from_slice(service);
+    record[DOMAIN..][..domain.len()].copy_from_slice(domain);
+    record
 }
 
 /// The size of an element with this much content. Document 01: "one byte to

@@ -36,7 +36,7 @@ pub fn buffers(random: &mut Random, job: &Job) -> Vec<usize> {
     lengths
 }
 
-/// As many bytes as the result may have, or a few more than it may have.
+/// At least as many bytes as the result would have, or more than the limit.
 fn room(job: &Job) -> usize {
     let names = job.kinds.len().max(job.lengths.len());
     let size = match job.writer {

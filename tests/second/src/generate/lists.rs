@@ -35,7 +35,7 @@ pub fn jobs(seed: u64, number: u64) -> [Job; 2] {
     Writer::ALL.map(|writer| job(&mut random, &pool, writer))
 }
 
-/// In one of two jobs a fault, in one of eight two.
+/// In three of eight jobs a fault, in one of eight two.
 fn job(random: &mut Random, pool: &Pool, writer: Writer) -> Job {
     let mut names = match writer {
         Writer::San => san_names(random, pool),
@@ -189,8 +189,8 @@ fn long_uri(random: &mut Random, length: usize) -> Vec<u8> {
     [before, vec![byte; run].as_slice(), behind].concat()
 }
 
-/// Takes names off the end and puts URIs in, so that all of them together have
-/// this many bytes in a SAN.
+/// Takes names off the end, as far as needed, and puts a URI in, so that all of
+/// them together have this many bytes in a SAN.
 fn fill_up(random: &mut Random, names: &mut Vec<Name>, content: usize) {
     let mut size: usize = names.iter().map(Name::size).sum();
     // No element has 130 or 259 bytes, and a URI needs eleven.
@@ -200,8 +200,8 @@ fn fill_up(random: &mut Random, names: &mut Vec<Name>, content: usize) {
     insert_sized(random, names, URI, content_of(content - size));
 }
 
-/// Records: mostly a few, with one in eight lists with a text as long as its
-/// field or longer; 16 and 17 of them, and many.
+/// Records: mostly a few, or 16, 17 or many; in one of eight lists with a text
+/// about as long as its field, or longer.
 fn records(random: &mut Random, pool: &Pool) -> Vec<Name> {
     let count = match random.below(60) {
         0 => random.between(18, 300),

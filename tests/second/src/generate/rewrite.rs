@@ -40,28 +40,26 @@ fn of_san(random: &mut Random, san: &[u8]) -> Vec<Rewrite> {
         Some(kind) => names.push((kind, name.text)),
         None => others += 1,
     });
-    let is_good = |(kind, text): &(u8, &[u8])| is_name(*kind, text);
-    let bad = names.iter().filter(|name| !is_good(name)).count();
-    let such = read.is_some() && san.len() <= longest::SAN && others + bad == 0;
+    let places = (0..names.len()).filter(|&place| {
+        let (kind, text) = names[place];
+        !is_name(kind, text)
+    });
+    let bad: Vec<usize> = places.collect();
+    let such = read.is_some() && san.len() <= longest::SAN && others == 0 && bad.is_empty();
     let mut rewrites = vec![Rewrite {
         job: Job::san(names.iter().copied()),
         back: (such && !san.is_empty()).then(|| san.to_vec()),
     }];
-    if bad == 0 || names.len() == 1 {
-        return rewrites;
+    if !bad.is_empty() && names.len() > 1 {
+        let rest_with = |kept: Option<usize>| {
+            let kept = |place: &usize| bad.binary_search(place).is_err() || kept == Some(*place);
+            let places = (0..names.len()).filter(kept);
+            Job::san(places.map(|place| names[place]))
+        };
+        let one = *random.pick(&bad);
+        rewrites.push(rest_with(Some(one)).into());
+        rewrites.push(rest_with(None).into());
     }
-    let kept = random.below(bad);
-    let mut number = 0;
-    let with_one: Vec<_> = names
-        .iter()
-        .filter(|name| {
-            let bad = !is_good(name);
-            number += usize::from(bad);
-            !bad || number == kept + 1
-        })
-        .collect();
-    rewrites.push(Job::san(with_one.into_iter().copied()).into());
-    rewrites.push(Job::san(names.iter().filter(|name| is_good(name)).copied()).into());
     rewrites
 }
 

@@ -267,6 +267,7 @@ fn certificate(kind: u8, service: &[u8], domain: &[u8]) -> Result<(Vec<u8>, Vec<
     let mut buffer = vec![0; Writer::San.longest()];
     let written = archive::write(Writer::San, &mut buffer, job.lists());
     buffer.truncate(written.length);
+    buffer.shrink_to_fit();
     match written.answer {
         0 => Ok((buffer, J.to_vec())),
         answer => Err(format!(
