@@ -234,6 +234,17 @@ fn listed() {
         let title = format!("{length}{}{unit}", forms[form]);
         lines.push(in_four(&title, Which::San, &one_name(length, form)));
     }
+    lines.extend(next_to_limits());
+    for count in [512, 513, 600] {
+        let bytes = [header(0x30, 2 * count, 3), [0x82, 0].repeat(count)].concat();
+        lines.push(for_512(&format!("{count} entries"), &bytes));
+    }
+    stored("listed", &lines);
+}
+
+/// Listings of strings at their limits and one byte past them.
+fn next_to_limits() -> Vec<Vec<u8>> {
+    let mut lines = Vec::new();
     for (title, size) in [("SAN of 16384 bytes", 16384), ("SAN of 16385", 16385)] {
         lines.push(in_four(
             title,
@@ -257,11 +268,7 @@ fn listed() {
             &bytes,
         ));
     }
-    for count in [512, 513, 600] {
-        let bytes = [header(0x30, 2 * count, 3), [0x82, 0].repeat(count)].concat();
-        lines.push(for_512(&format!("{count} entries"), &bytes));
-    }
-    stored("listed", &lines);
+    lines
 }
 
 /// More names than one, in `paged`.
@@ -327,8 +334,10 @@ const TWO_SETS: &[u8] = b"\x30\x1A\x31\x08\x30\x06\x06\x01\x2A\x0C\x01\x62\x31\x
 const PERMITTED: &[u8] =
     b"\x30\x16\xA0\x14\x30\x12\xA0\x10\x06\x08\x2B\x06\x01\x05\x05\x07\x08\x07\xA0\x04\x16\x02_n";
 
-/// Title, SAN, subject and constraints of each line of `witnessed`.
-const WITNESSED: [(&str, &[u8], &[u8], &[u8]); 10] = [
+/// A line of `witnessed`: title, SAN, subject and constraints.
+type Witnessed = (&'static str, &'static [u8], &'static [u8], &'static [u8]);
+
+const WITNESSED: [Witnessed; 10] = [
     ("dNSName", b"\x30\x07\x82\x05a.b.c", ABC, b""),
     ("wildcard", b"\x30\x07\x82\x05*.b.c", ABC, b""),
     (

@@ -87,7 +87,7 @@ fn run(program: &Path, case: &Case, number: u64, unreadable: Option<usize>) -> i
         let path = folder.join(name);
         if unreadable == Some(index) {
             fs::create_dir(path)?;
-        } else if !bytes.is_empty() || number % 2 == 0 {
+        } else if !bytes.is_empty() || number.is_multiple_of(2) {
             fs::write(path, bytes)?;
         }
     }

@@ -441,7 +441,10 @@ pub fn srv_subtree(random: &mut Random, pool: &Pool) -> Node {
 /// Subtrees of other forms, which are "read and passed over".
 pub fn other_subtrees(random: &mut Random) -> Vec<Node> {
     let one = |random: &mut Random| match random.below(4) {
-        0 => dns_name(*random.pick(&[b"example".as_slice(), b"10.4.0.7"])),
+        0 => {
+            let name = *random.pick(&[b"example".as_slice(), b"10.4.0.7"]);
+            dns_name(name)
+        }
         1 => uri_name(b".example"),
         2 => dns_name(b""),
         _ => other_entry(random),
