@@ -100,16 +100,16 @@ fn fixed(cases: u64, seed: u64) -> Result<(), String> {
 /// The desk examples and the boundary table.
 fn tables() -> Result<(), String> {
     let mut tally = Tally::default();
-    let mut old_rows = Random::new(0, 0);
+    let mut old = Old::new(0, 0);
     for example in examples::table() {
-        compare(&example.case, &mut old_rows, &mut tally)
+        compare(&example.case, &mut old, &mut tally)
             .map_err(|difference| format!("example {}\n{difference}", example.number))?;
     }
     let mut lines = 0;
     let mut result = Ok(());
     boundary::each(&mut |(what, case)| {
         if result.is_ok() {
-            result = compare(&case, &mut old_rows, &mut tally)
+            result = compare(&case, &mut old, &mut tally)
                 .map_err(|difference| format!("boundary line {lines}: {what}\n{difference}"));
             lines += 1;
         }
@@ -124,7 +124,7 @@ fn tables() -> Result<(), String> {
 /// The boundary table of the writers.
 fn writer_table() -> Result<(), String> {
     let mut tally = writers::Tally::default();
-    let mut old_bytes = Random::new(0, 1);
+    let mut old_bytes = Old::new(0, 1).bytes;
     let mut lines = 0;
     let mut result = Ok(());
     boundary::writers::each(&mut |(what, job)| {
@@ -143,11 +143,11 @@ fn generated(cases: u64, seed: u64, first: u64) -> Result<Tally, String> {
     let mut tally = Tally::default();
     for number in first..first.saturating_add(cases) {
         let case = generate::case(seed, number);
-        let mut old_rows = Random::new(!seed, number);
-        let mut result = compare(&case, &mut old_rows, &mut tally);
+        let mut old = Old::new(!seed, number);
+        let mut result = compare(&case, &mut old, &mut tally);
         for job in lists::jobs(seed, number) {
-            result =
-                result.and_then(|()| writers::compare_job(job, &mut old_rows, &mut tally.writers));
+            let writers = &mut tally.writers;
+            result = result.and_then(|()| writers::compare_job(job, &mut old.bytes, writers));
         }
         result.map_err(|difference| format!("seed {seed}, case {number}\n{difference}"))?;
     }
@@ -194,8 +194,34 @@ impl Exact {
     }
 }
 
-/// Compares everything that both implementations tell of one case.
-fn compare(case: &Case, old_rows: &mut Random, tally: &mut Tally) -> Result<(), String> {
+/// What stood before in the tables and buffers that are lent, and how long these
+/// are: one stream for writers, and one for the rest.
+struct Old {
+    rows: Random,
+    bytes: Random,
+}
+
+/// Keeps the two streams apart.
+const BYTES: u64 = 0x4279_7465;
+
+impl Old {
+    fn new(seed: u64, number: u64) -> Self {
+        Old {
+            rows: Random::new(seed, number),
+            bytes: Random::new(seed ^ BYTES, number),
+        }
+    }
+}
+
+/// Compares everything that both implementations tell of one case, and what they
+/// write of it.
+fn compare(case: &Case, old: &mut Old, tally: &mut Tally) -> Result<(), String> {
+    compare_readers(case, &mut old.rows, tally)?;
+    writers::compare_case(case, &mut old.bytes, &mut tally.writers)
+}
+
+/// Compares what both implementations read.
+fn compare_readers(case: &Case, old_rows: &mut Random, tally: &mut Tally) -> Result<(), String> {
     let exact = Exact::new(case);
     let inputs = exact.inputs();
     let ours = judge(
@@ -221,7 +247,7 @@ fn compare(case: &Case, old_rows: &mut Random, tally: &mut Tally) -> Result<(), 
             &archive::record(inputs.references, index),
         )?;
     }
-    writers::compare_case(case, old_rows, &mut tally.writers)
+    Ok(())
 }
 
 /// Lists one string into tables of several lengths.
