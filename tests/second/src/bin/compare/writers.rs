@@ -82,7 +82,8 @@ fn compare_rewrite(
     match (&rewrite.back, result) {
         (Some(back), result) => {
             tally.back[job.writer as usize] += 1;
-            job.equal("written back", &Some(back.as_slice()), &result.as_deref())
+            let result = result.as_deref().map(Hex);
+            job.equal("written back", &Some(Hex(back)), &result)
         }
         (None, None) => Ok(()),
         (None, Some(bytes)) => match job.writer {
@@ -99,6 +100,16 @@ fn old_bytes(random: &mut Random, length: usize) -> Box<[u8]> {
         chunk.copy_from_slice(&random.bits().to_ne_bytes()[..chunk.len()]);
     }
     bytes
+}
+
+/// Bytes that are shown as in the documents.
+#[derive(PartialEq)]
+struct Hex<'a>(&'a [u8]);
+
+impl fmt::Debug for Hex<'_> {
+    fn fmt(&self, f: &mut fmt::Formatter) -> fmt::Result {
+        f.write_str(&crate::hex(self.0))
+    }
 }
 
 /// Kind, service and domain of a record.
@@ -150,7 +161,7 @@ impl<'a> Exact<'a> {
         let lent = our_buffer.len();
         self.equal(format_args!("with {lent} bytes lent"), &ours, &theirs)?;
         let what = format_args!("buffer of {lent} bytes after it");
-        self.equal(what, &our_buffer, &their_buffer)?;
+        self.equal(what, &Hex(&our_buffer), &Hex(&their_buffer))?;
         Ok((theirs, their_buffer))
     }
 
@@ -243,9 +254,9 @@ impl<'a> Exact<'a> {
             format!("DIFFERENT: {:?} writer, {what}", self.writer),
             format!("kinds {:?}", self.kinds),
             format!("lengths {:?}", self.lengths),
-            format!("texts {}", crate::hex(&self.texts)),
-            format!("this    {ours:02X?}"),
-            format!("archive {theirs:02X?}"),
+            format!("texts {:?}", Hex(&self.texts)),
+            format!("this    {ours:?}"),
+            format!("archive {theirs:?}"),
         ];
         Err(lines.join("\n"))
     }
