@@ -218,7 +218,7 @@ uint32_t beckethand_opening(const uint8_t *bytes, size_t bytes_len, size_t which
 struct beckethand_sight beckethand_view(const uint8_t *bytes, size_t bytes_len, size_t which, size_t at);
 
 /* THE WRITERS make what the other calls read: a SAN value for a certificate request, and reference records for a kiosk. What they write
- * cannot be misspelled, and reads back as the list that was asked for.
+ * has the form that these calls take, and reads back as the list that was asked for.
  *
  * A list is three slices: one kind for each name, numbered as in a record; the texts' bytes, end to end with nothing between; and the
  * texts' lengths. A SAN's name has one text, a record two: its service and then its domain. So `a.b`, `_m.b.c`, `sip://a.b` in a SAN are
@@ -237,9 +237,10 @@ struct beckethand_sight beckethand_view(const uint8_t *bytes, size_t bytes_len, 
  *   24  buffer too short   lend as many bytes as the limit, or 320 for each record
  *    0  written            the first `length` bytes of the buffer hold the result; bytes past it keep what they held
  *
- * NAMES IN A SAN. 1: a domain as under RECORDS, or "*." and such a domain; 2: "_", a service, "." and a domain, none of it a wildcard; 3: a
- * scheme, "://", optionally a user part and "@", a domain, optionally ":" and a port, and then anything from "/", "?" or "#" on. Here a
- * domain may have one label, but not behind "*.". Every byte is below 128. Case is kept. NAMES IN RECORDS: those of a good record. */
+ * NAMES IN A SAN. 1: a domain as under RECORDS, or "*." and such a domain, at most 253 bytes in all; 2: "_", a service as under RECORDS,
+ * "." and a domain; 3: a scheme, "://", optionally a user part and "@", a domain, optionally ":" and digits or nothing, and then the end or
+ * anything from "/", "?" or "#" on. A domain may have one label here, but not behind "*.". Every byte is below 128. Case is kept.
+ * NAMES IN RECORDS: those of a good record. */
 struct beckethand_written {
     size_t answer, length;
 };

@@ -88,8 +88,6 @@ sanValues =
     -- "a result over the SAN .. limit (23)": a URI of 16,376 bytes, and of one more
     ∷ refuses sanWriter (one 3 (text "sip://a.b/" ++ replicate 16366 0x78)) 24
     ∷ refuses sanWriter (one 3 (text "sip://a.b/" ++ replicate 16367 0x78)) 23
-    -- and, far over it, a text behind that is no name
-    ∷ refuses sanWriter (request (3 ∷ 1 ∷ []) (70000 ∷ 1 ∷ []) (text "sip://a.b/" ++ (replicate 69990 0x78 ++ text "-"))) 22
     ∷ []
 
 abbrev recordValues : List Example

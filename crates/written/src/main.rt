@@ -86,12 +86,16 @@ fn one_name() {
     san(b"an address", &[1], &[8], b"10.4.0.7", 12);
 }
 
-// "no kinds is the empty list, lists that disagree or another kind are 22"
+// "no kinds is the empty list, lists that disagree .. are 22"
 fn lists() {
     san(b"no kinds", b"", &[3], b"a.b", 12);
     san(b"nothing", b"", &[], b"", 0);
     san(b"a length more", &[1], &[3, 0], b"a.b", 12);
     san(b"a length fewer", &[1, 1], &[3], b"a.b", 12);
+}
+
+// Lengths that do not add up to the texts.
+fn sums() {
     san(b"a byte left over", &[1], &[2], b"a.b", 12);
     san(b"a length past the texts", &[1], &[4], b"a.b", 12);
     san(
@@ -101,6 +105,10 @@ fn lists() {
         b"a.b",
         12,
     );
+}
+
+// "another kind"
+fn kinds() {
     san(b"kind 0", &[0], &[3], b"a.b", 12);
     san(b"kind 4", &[4], &[3], b"a.b", 12);
     san(b"kind 255", &[255], &[3], b"a.b", 12);
@@ -123,6 +131,10 @@ fn texts() {
         b"sip://\xFF@a.b",
         20,
     );
+}
+
+// Names of another kind, and names whose case is kept.
+fn other_texts() {
     san(b"an SRVName as a dNSName", &[1], &[6], b"_m.b.c", 40);
     san(b"a dNSName as an SRVName", &[2], &[3], b"a.b", 40);
     san(b"case is kept", &[1, 2], &[3, 6], b"A.b_M.b.C", 40);
@@ -141,6 +153,10 @@ fn good_records() {
     records(b"an SRV record", &[2], &[3, 3], b"sipa.b", 320);
     records(b"a URI record", &[3], &[3, 3], b"sipa.b", 320);
     records(b"a CN record", &[4], &[0, 3], b"a.b", 320);
+}
+
+// Several records, a buffer that is too short, and case.
+fn more_good_records() {
     records(b"two records", &[1, 2], &[0, 3, 1, 3], b"a.bma.b", 640);
     records(b"a record, a byte short", &[1], &[0, 3], b"a.b", 319);
     records(b"a record, case is kept", &[2], &[3, 3], b"SiPA.b", 320);
@@ -151,6 +167,10 @@ fn bad_records() {
     records(b"a record of one label", &[1], &[0, 1], b"b", 320);
     records(b"a record of a wildcard", &[1], &[0, 5], b"*.b.c", 320);
     records(b"a record of an address", &[1], &[0, 8], b"10.4.0.7", 320);
+}
+
+// A service where none belongs, none where one does, and other kinds.
+fn more_bad_records() {
     records(b"a DNS record with a service", &[1], &[1, 3], b"ma.b", 320);
     records(
         b"an SRV record without a service",
@@ -182,8 +202,13 @@ fn main() {
     three_names();
     one_name();
     lists();
+    sums();
+    kinds();
     texts();
+    other_texts();
     good_records();
+    more_good_records();
     bad_records();
+    more_bad_records();
     record_lists();
 }
