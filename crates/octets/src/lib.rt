@@ -2,6 +2,7 @@
 ghost use mathlib.Core.Path.{_≡_};
 ghost use Prim.Native.Nat.{_-_, _<_, _≤_};
 ghost use lib.ListN.{length, drop};
+ghost use lib.Dec.{eqb};
 ghost use Rattle.rules.specs.Bytes.{all, any, same, before};
 ghost use Rattle.rules.specs.Names.{is, letter, digit, letterDigitHyphen, schemeByte, sameText};
 ghost use Rattle.rules.specs.Names as names;
@@ -97,7 +98,19 @@ pub fn same_bytes(a: &[u8], b: &[u8]) -> bool
     true
 }
 
-// Whether two texts are the same without case.
+// Whether two bytes that differ are one letter: then the lesser is the capital. Where two bytes do not differ nothing is folded,
+// so this may not be asked of them.
+fn same_letter(x: u8, y: u8) -> bool
+    requires { ⌜ (x ≡ y → ⊥) ⌝ }
+    ensures { λ r. ⌜ r ≡ eqb (names.lower x) (names.lower y) ⌝ }
+{
+    if x < y {
+        return lower(x) == y;
+    }
+    lower(y) == x
+}
+
+// Whether two texts are the same without case: left at the first difference, and folded only where two bytes differ.
 pub fn same_text(a: &[u8], b: &[u8]) -> bool
     ensures { λ r. ⌜ r ≡ sameText (now (a .entry)) (now (b .entry)) ⌝ }
 {
@@ -107,10 +120,13 @@ pub fn same_text(a: &[u8], b: &[u8]) -> bool
     }
     let mut k = 0;
     while k < n {
-        let x = lower(a[k]);
-        let y = lower(b[k]);
+        let x = a[k];
+        let y = b[k];
         if x != y {
-            return false;
+            let same = same_letter(x, y);
+            if !same {
+                return false;
+            }
         }
         k += 1;
     }

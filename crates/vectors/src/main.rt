@@ -4,7 +4,7 @@
 // A line is a letter, a space, and one to three texts behind single spaces:
 //   d domain     s service     h scheme     n DNS-ID     N reference, text: they match
 //   r SRV-ID     R service, domain, text: they match     u URI-ID     U scheme, domain, text: they match
-//   x restriction     X subtree, SRV-ID: the name lies in it
+//   x restriction     X subtree, SRV-ID: the name lies in it     T text, text: they are the same without case
 // The line is written back behind 1 where the rule holds and 0 where it does not.
 //
 // The stored output is held, line by line, to what the second program says of the same vectors and records
@@ -40,6 +40,7 @@ fn holds(rule: u8, s: &[u8]) -> bool {
         b'U' => uri::uri_matches(word(s), word(rest), past_word(rest)),
         b'x' => srv::restriction(s),
         b'X' => srv::in_subtree(word(s), rest),
+        b'T' => octets::same_text(word(s), rest),
         _ => false,
     }
 }

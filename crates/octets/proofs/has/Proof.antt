@@ -6,11 +6,11 @@ use Rattle.octets.proofs.has.Reads as reads
 use Rattle.octets.proofs.has.Lts as lts
 use Rattle.octets.proofs.find.Reads as find-reads
 
--- src/lib.rt:138:9
+-- src/lib.rt:154:9
 find-requires : tie.Need-find-requires
 find-requires c κs = search needs
 
--- src/lib.rt:135:1
+-- src/lib.rt:151:1
 returns : tie.Need-returns
 returns c = search (needs, laws)
 

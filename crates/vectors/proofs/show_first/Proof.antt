@@ -6,19 +6,19 @@ use Rattle.vectors.proofs.show_first.Reads as reads
 use Rattle.vectors.proofs.show_first.Lts as lts
 use Rattle.vectors.proofs.show_answer.Reads as show-answer-reads
 
--- src/main.rt:106:21
+-- src/main.rt:107:21
 slice-aggregate-show-answer : tie.Need-slice-aggregate-show-answer
 slice-aggregate-show-answer c = search (needs, laws)
 
--- src/main.rt:106:9
+-- src/main.rt:107:9
 show-answer-requires : tie.Need-show-answer-requires
 show-answer-requires c κs = search needs
 
--- src/main.rt:104:1
+-- src/main.rt:105:1
 returns : tie.Need-returns
 returns c = search needs
 
--- src/main.rt:104:1
+-- src/main.rt:105:1
 returns-2 : tie.Need-returns-2
 returns-2 c = search needs
 
