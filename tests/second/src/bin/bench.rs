@@ -1,6 +1,7 @@
 //! Measures the time of one verdict through the archive and in this crate, on
-//! the same inputs in one run, and of paging through a SAN and of writing. A
-//! measurement and not a test: it fails only where the two answers differ.
+//! the same inputs in one run, and of paging through a SAN, of writing and of
+//! comparing two labels. A measurement and not a test: it fails only where the
+//! two answers differ.
 //!
 //! One verdict is one call: `beckethand_answer` for the archive, `verdict`,
 //! with all five numbers, for this crate.
@@ -9,6 +10,7 @@ use second::archive::{self, Inputs};
 use second::generate::{Case, Job};
 use second::longest;
 use second::records::kind::{DNS, SRV, URI};
+use second::text::{same_text, LONGEST_LABEL};
 use second::tree::*;
 use second::{Viewer, Which, Writer};
 use std::cell::RefCell;
@@ -20,6 +22,9 @@ use std::time::{Duration, Instant};
 const REPETITION: Duration = Duration::from_micros(400);
 const REPETITIONS: usize = 151;
 
+/// Over the numbers of names and of references that begin a line.
+const NAMES_REFERENCES: &str = "names  refs";
+
 fn main() {
     println!("best of {REPETITIONS} repetitions, ns per verdict\n");
     for (title, form) in [
@@ -27,7 +32,7 @@ fn main() {
         ("dNSNames, SRVNames and URIs", Form::Mixed),
     ] {
         println!("{title}");
-        heading();
+        heading(NAMES_REFERENCES);
         for names in [2, 40, 400] {
             for references in [1, 16] {
                 for hit in [Hit::First, Hit::Last, Hit::Never] {
@@ -39,7 +44,7 @@ fn main() {
         println!();
     }
     println!("growth with the SAN's size: dNSNames, no match");
-    heading();
+    heading(NAMES_REFERENCES);
     for quarters in 1..=4 {
         for references in [1, 16] {
             let size = longest::SAN * quarters / 4;
@@ -50,12 +55,13 @@ fn main() {
     }
     paging();
     writing();
+    labels();
 }
 
 /// The time of paging through a SAN.
 fn paging() {
     println!("\npaging through a SAN of dNSNames to its end, ns in all");
-    heading();
+    heading(NAMES_REFERENCES);
     for names in [2, 40, 400] {
         let san = sample(names, 1, Hit::Never, Form::Dns).san;
         let theirs = || {
@@ -77,7 +83,7 @@ fn paging() {
 /// The time of writing a SAN and of writing records.
 fn writing() {
     println!("\nwriting dNSNames, SRVNames and URIs, or 16 records of them, ns in all");
-    heading();
+    heading(NAMES_REFERENCES);
     for names in [3, 400] {
         let mut job = Job::new(Writer::San);
         for index in 0..names {
@@ -92,6 +98,28 @@ fn writing() {
         job.push(kind, &[service(kind), &domain(index)]);
     }
     write_line(&format!("{:5} {:5}", "", 16), &job);
+}
+
+/// The time of comparing two labels, of as many bytes as a label may have.
+fn labels() {
+    println!("\ncomparing two labels of 63 letters without case, ns");
+    heading("");
+    let label: Vec<u8> = (b'a'..=b'z').cycle().take(LONGEST_LABEL).collect();
+    let other_letter = |at: usize| {
+        let mut other = label.clone();
+        other[at] = b'q';
+        other
+    };
+    for (what, other) in [
+        ("equal", label.clone()),
+        ("first letters differ", other_letter(0)),
+        ("every letter's case", label.to_ascii_uppercase()),
+        ("last letters differ", other_letter(LONGEST_LABEL - 1)),
+    ] {
+        let theirs = || archive::same_text(black_box(&label), black_box(&other));
+        let ours = || u32::from(same_text(black_box(&label), black_box(&other)));
+        both(what, theirs, ours);
+    }
 }
 
 /// Measures how long a list takes to be written.
@@ -241,11 +269,8 @@ fn certificate(entries: Vec<Node>, records: Vec<Vec<u8>>) -> Case {
     case
 }
 
-fn heading() {
-    println!(
-        "{:24}{:>12}{:>12}{:>8}",
-        "names  refs", "archive", "this", "ratio"
-    );
+fn heading(what: &str) {
+    println!("{what:24}{:>12}{:>12}{:>8}", "archive", "this", "ratio");
 }
 
 /// Measures the verdict of one case.
@@ -267,7 +292,7 @@ fn line(what: &str, case: &Case) {
 fn both(what: &str, theirs: impl Fn() -> u32, ours: impl Fn() -> u32) {
     assert_eq!(theirs(), ours(), "{what}: different answers");
     let (theirs, ours) = best(theirs, ours);
-    println!("{what:24}{theirs:12.0}{ours:12.0}{:8.2}", theirs / ours);
+    println!("{what:24}{theirs:12.1}{ours:12.1}{:8.2}", theirs / ours);
 }
 
 fn inputs(case: &Case) -> Inputs<'_> {
