@@ -28,6 +28,9 @@ pub const J: [u8; 16] = [
     0x30, 0x0E, 0x31, 0x0C, 0x30, 0x0A, 0x06, 0x03, 0x55, 0x04, 0x03, 0x0C, 0x03, 0x61, 0x2E, 0x62,
 ];
 
+/// A label of 63 bytes: every byte that a label may have, once.
+pub const LABEL: [u8; 63] = *b"AbCdEfGhIjKlMnOpQrStUvWxYz0123456789-aBcDeFgHiJkLmNoPqRsTuVwXyZ";
+
 /// A SAN of the dNSNames `a.b` and `b.c`.
 pub const TWO_ENTRIES: [u8; 12] = *b"\x30\x0A\x82\x03a.b\x82\x03b.c";
 

@@ -1,6 +1,6 @@
 //! A second implementation of the certificate name check, written from the
 //! document "The rules and what will be built" (document 01) and requests 1/13
-//! to 4/13 of "New change requests from customers" (document 02) alone. Quoted
+//! to 5/13 of "New change requests from customers" (document 02) alone. Quoted
 //! sentences in the comments are document 01's, or a request's where they say
 //! so.
 

@@ -3,7 +3,7 @@
 use crate::constraints::{first_broken, SrvSides};
 use crate::name::{kind as row_kind, Name};
 use crate::records::{kind, Reference, References};
-use crate::text::{self, Pair};
+use crate::text::{self, same_text, Pair};
 use crate::{answer, longest, san, subject};
 
 /// "A verdict is five numbers: answer, reference index, presented index,
@@ -170,9 +170,12 @@ impl<'a> Search<'a> {
     #[inline]
     fn domain(&mut self, kind: u8, name: Name<'a>) {
         match name.text.strip_prefix(b"*.") {
-            None => self.offer(name, kind, |reference| same(name.text, reference.domain)),
+            None => self.offer(name, kind, |reference| {
+                same_text(name.text, reference.domain)
+            }),
             Some(rest) => self.offer(name, kind, |reference| {
-                reference.parent.is_some_and(|parent| same(rest, parent))
+                let parent = reference.parent;
+                parent.is_some_and(|parent| same_text(rest, parent))
             }),
         }
     }
@@ -185,7 +188,7 @@ impl<'a> Search<'a> {
         }
         if let Some((service, domain)) = parts(name.text) {
             self.offer(name, kind, |reference| {
-                same(domain, reference.domain) && same(service, reference.service)
+                same_text(domain, reference.domain) && same_text(service, reference.service)
             });
         }
     }
@@ -202,11 +205,4 @@ impl<'a> Search<'a> {
             self.found = Some(name);
         }
     }
-}
-
-/// "Letters compare without case, label by label": dots are bytes of the text
-/// like any other, so equal texts have equal labels.
-#[inline]
-fn same(one: &[u8], other: &[u8]) -> bool {
-    one.eq_ignore_ascii_case(other)
 }

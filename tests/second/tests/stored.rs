@@ -4,7 +4,8 @@
 use second::examples::{J, THREE_ATTRIBUTES, THREE_SUBTREES, TWO_ENTRIES};
 use second::records::kind::{CN, DNS, SRV, URI};
 use second::text::{
-    has_two_labels, is_domain, is_scheme, is_service, is_srv_subtree, lies_in, srv_id, uri_parts,
+    has_two_labels, is_domain, is_scheme, is_service, is_srv_subtree, lies_in, same_text, srv_id,
+    uri_parts,
 };
 use second::tree::{dns_name, record, san, srv_name, uri_name, Node};
 use second::{answer, judge, list, list_into, verdict, Lists, Row, Viewer, Which, Writer};
@@ -82,6 +83,7 @@ fn holds(rule: u8, text: &[u8]) -> bool {
         b'U' => matches(uri_name(third), URI, first, second),
         b'x' => is_srv_subtree(text),
         b'X' => srv_id(rest).is_some_and(|pair| lies_in(pair, first)),
+        b'T' => same_text(first, rest),
         _ => panic!("no rule has the letter {rule}"),
     }
 }

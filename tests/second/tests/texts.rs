@@ -1,6 +1,6 @@
 //! Unit tables for the texts of names.
 
-use second::examples::domain_of;
+use second::examples::{domain_of, LABEL};
 use second::text::*;
 
 #[test]
@@ -280,5 +280,95 @@ fn names_inside_and_outside_of_subtrees() {
         "_mail.b",
     ] {
         assert!(!lies_in(name, subtree.as_bytes()), "{subtree}");
+    }
+}
+
+/// The edges of "Letters compare without case": both texts, and whether they
+/// are the same.
+const SAME: [(&[u8], &[u8], bool); 34] = [
+    (b"", b"", true),
+    (b"", b"a", false),
+    (b"", b"\0", false),
+    (b"", b" ", false),
+    (b"A", b"a", true),
+    (b"Z", b"z", true),
+    (b"M", b"m", true),
+    (b"a", b"b", false),
+    (b"A", b"Z", false),
+    (b"@", b"`", false),
+    (b"[", b"{", false),
+    (b"@", b"@", true),
+    (b"{", b"{", true),
+    (b"@", b"A", false),
+    (b"Z", b"[", false),
+    (b"`", b"a", false),
+    (b"z", b"{", false),
+    (b"1", b"\x11", false),
+    (b"-", b"\r", false),
+    (b".", b"\x0E", false),
+    (b"_", b"\x7F", false),
+    (b"*", b"\n", false),
+    (b" ", b"\0", false),
+    (b"?", b"\x1F", false),
+    (b"\xC3", b"\xE3", false),
+    (b"\xC3", b"\xC3", true),
+    (b"\xC3\x89", b"\xC3\xA9", false),
+    (b"A", b"\xC1", false),
+    (b"a", b"\xE1", false),
+    (b"k", b"\xE2\x84\xAA", false),
+    (b"s", b"\xC5\xBF", false),
+    (b"a.b", b"a.b.c", false),
+    (b"a.b", b"a.b\0", false),
+    (b"Desk-1.Branch", b"dESK-1.bRANCH", true),
+];
+
+#[test]
+fn letters_compare_without_case() {
+    for (one, other, same) in SAME {
+        assert_eq!(same_text(one, other), same, "{one:?} and {other:?}");
+        assert_eq!(same_text(other, one), same, "{other:?} and {one:?}");
+    }
+}
+
+/// A letter's place in the alphabet, whatever its case.
+fn place_in_alphabet(byte: u8) -> Option<usize> {
+    let alphabets = [b"ABCDEFGHIJKLMNOPQRSTUVWXYZ", b"abcdefghijklmnopqrstuvwxyz"];
+    let mut places = alphabets
+        .iter()
+        .filter_map(|alphabet| alphabet.iter().position(|&letter| letter == byte));
+    places.next()
+}
+
+/// Whether two bytes are the same letter, or the same byte.
+fn same_byte(one: u8, other: u8) -> bool {
+    let letters = (place_in_alphabet(one), place_in_alphabet(other));
+    one == other || matches!(letters, (Some(one), Some(other)) if one == other)
+}
+
+/// Every pair of bytes alone, and at several places of a label of 63 bytes.
+#[test]
+fn every_pair_of_bytes() {
+    for one in 0..=255 {
+        for other in 0..=255 {
+            let same = same_byte(one, other);
+            assert_eq!(same_text(&[one], &[other]), same, "{one:02X} {other:02X}");
+            for place in [0, 7, 8, 15, 16, 62] {
+                let (mut first, mut second) = (LABEL, LABEL.map(|byte| byte.to_ascii_lowercase()));
+                (first[place], second[place]) = (one, other);
+                assert_eq!(same_text(&first, &second), same, "at {place}");
+            }
+        }
+    }
+}
+
+/// Texts of different lengths are not the same, whatever they begin with.
+#[test]
+fn texts_of_different_lengths() {
+    let text = domain_of(253);
+    for one in 0..=text.len() {
+        for other in 0..=text.len() {
+            let same = same_text(&text[..one], &text[..other]);
+            assert_eq!(same, one == other, "{one} and {other}");
+        }
     }
 }
