@@ -1,15 +1,18 @@
-//! A seeded generator of whole cases: four inputs of a name check; and of jobs
-//! for the writers.
+//! A seeded generator of whole cases: four inputs of a name check; of jobs for
+//! the writers; and of pairs of texts.
 
+mod alike;
 pub mod boundary;
 pub mod buffers;
 mod crowd;
 mod draft;
+pub mod flips;
 pub mod lists;
 mod mutate;
 pub mod positions;
 pub mod random;
 pub mod rewrite;
+pub mod texts;
 mod uri;
 mod words;
 
@@ -116,13 +119,17 @@ pub fn case(seed: u64, number: u64) -> Case {
         3 => Draft::far_set(&mut random, &pool),
         4..=5 => Draft::far_subtree(&mut random, &pool),
         6..=8 => Draft::sized(&mut random, &pool),
-        9..=34 => Draft::constrained(&mut random, &pool),
-        35..=54 => Draft::subject_only(&mut random, &pool),
-        55..=96 => Draft::plain(&mut random, &pool),
+        9..=32 => Draft::constrained(&mut random, &pool),
+        33..=51 => Draft::subject_only(&mut random, &pool),
+        52..=81 => Draft::plain(&mut random, &pool),
+        82..=96 => Draft::alike(&mut random),
         _ => Draft::uneven(&mut random, &pool),
     };
     if random.one_in(6) {
         mutate::draft(&mut random, &mut draft);
+    }
+    if random.one_in(8) {
+        mutate::texts(&mut random, &mut draft);
     }
     let mut case = draft.write();
     if random.one_in(9) {

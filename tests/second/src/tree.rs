@@ -161,6 +161,16 @@ pub fn general_name(kind: u8, text: &[u8]) -> Node {
     }
 }
 
+/// The text of a name whose kind is numbered as in a record, from the texts that
+/// a record has.
+pub fn name_text(kind: u8, service: &[u8], domain: &[u8]) -> Vec<u8> {
+    match kind {
+        SRV => [b"_", service, b".", domain].concat(),
+        URI => [service, b"://", domain].concat(),
+        _ => domain.to_vec(),
+    }
+}
+
 /// The subject: "tag 30, zero or more sets (31)".
 pub fn subject(sets: Vec<Node>) -> Node {
     parts(0x30, sets)

@@ -1,15 +1,16 @@
 //! The generator gives the same case for the same seed, and enough of each
 //! kind of case.
 
-use second::constraints::{EXCLUDED, PERMITTED};
+use second::constraints::{self, EXCLUDED, PERMITTED};
 use second::generate::buffers::buffers;
 use second::generate::lists::jobs;
 use second::generate::{case, Case, Job, Random};
 use second::name::kind::{CN as CN_ROW, DNS as DNS_ROW, SRV as SRV_ROW, URI as URI_ROW};
+use second::name::Name;
 use second::records::kind::{CN, DNS, SRV, URI};
 use second::records::RECORD;
-use second::text::{is_domain, is_uri_id};
-use second::tree::{general_name, san as tree_san};
+use second::text::{is_domain, is_uri_id, lies_in, same_text, srv_id, Pair};
+use second::tree::{general_name, name_text, san as tree_san};
 use second::{answer, list, record, san, subject, Outcome, Which, Writer};
 
 const CASES: u64 = 40_000;
@@ -196,7 +197,7 @@ fn short_wildcard(case: &Case, kind: u8, texts: &[&[u8]]) -> bool {
         let mut records = case.references.chunks(RECORD);
         records.any(|record| {
             let (_, parent) = split(domain(record));
-            record[0] == kind && parent.eq_ignore_ascii_case(rest)
+            record[0] == kind && same_text(parent, rest)
         })
     };
     let short = |text: &[u8]| {
@@ -258,6 +259,168 @@ fn the_two_labels_of_request_1_are_tried() {
     }
 }
 
+/// The text with bit 20 (hex) turned back where it makes a byte of a name out of
+/// one that no name has.
+fn turned_back(text: &[u8]) -> Vec<u8> {
+    let back = |&byte: &u8| match byte {
+        0x00..=0x1F | 0x60 | 0x7F => byte ^ 0x20,
+        _ => byte,
+    };
+    text.iter().map(back).collect()
+}
+
+/// The case with such bytes turned back in the names of its SAN and in its CNs.
+fn case_turned_back(case: &Case) -> Case {
+    let mut back = case.clone();
+    let put = |bytes: &mut [u8], name: Name| {
+        let place = name.text_start..name.text_start + name.text.len();
+        bytes[place].copy_from_slice(&turned_back(name.text));
+    };
+    let _read = san::read(&case.san, |name| put(&mut back.san, name));
+    let sole = |name: Name| put(&mut back.subject, name);
+    let _read = subject::read(&case.subject, |_| (), sole);
+    back
+}
+
+/// A pair that matches once bytes are turned back: its kind in `MATCHES`, and the
+/// bytes in which the name differs from what is asked for, each by its place in
+/// its label and by whether it is the last there.
+type Differing = (usize, Vec<(usize, bool)>);
+
+/// DNS and the same with a wildcard, SRV, URI, CN and the same with a wildcard.
+const MATCHES: usize = 6;
+
+fn differing(case: &Case, back: &Case, outcome: &Outcome) -> Differing {
+    let kind = matched(back, outcome);
+    let range = outcome.text.start as usize..(outcome.text.start + outcome.text.length) as usize;
+    let text = |case: &Case| match kind {
+        CN => case.subject[range.clone()].to_vec(),
+        _ => case.san[range.clone()].to_vec(),
+    };
+    let (text, matching) = (text(case), text(back));
+    let record = &back.references[outcome.verdict.reference as usize * RECORD..][..RECORD];
+    let service = &record[4..4 + usize::from(record[2])];
+    let mut asked = name_text(kind, service, domain(record));
+    let wildcard = matching.starts_with(b"*");
+    if wildcard {
+        asked = [b"*.", split(&asked).1].concat();
+    }
+    let place = |at: usize| {
+        let start = asked[..at].iter().rposition(|&byte| byte == b'.');
+        let last = asked.get(at + 1).is_none_or(|&byte| byte == b'.');
+        (at - start.map_or(0, |dot| dot + 1), last)
+    };
+    let places = (0..asked.len()).filter(|&at| text.get(at) != asked.get(at));
+    let kind = [0, 2, 3, 4][usize::from(kind) - 1] + usize::from(wildcard);
+    // What stands around a URI's domain is not asked for.
+    match same_text(&asked, &matching[..asked.len().min(matching.len())]) {
+        true => (kind, places.map(place).collect()),
+        false => (kind, Vec::new()),
+    }
+}
+
+/// The places in labels that are looked for, and the last.
+const PLACES: [usize; 6] = [0, 7, 8, 15, 16, 62];
+
+/// How often pairs differ in bit 20 (hex) of some bytes, or of one byte alone:
+/// letters, so that they match, or others, so that they do not.
+#[derive(Debug, Default)]
+struct Turned {
+    some: [[u32; 2]; MATCHES],
+    one: [[u32; 2]; MATCHES],
+    places: [[u32; 2]; PLACES.len() + 1],
+}
+
+impl Turned {
+    fn count(&mut self, (kind, places): Differing, answer: usize) {
+        self.some[kind][answer] += u32::from(!places.is_empty());
+        if let [(at, last)] = places[..] {
+            self.one[kind][answer] += 1;
+            for (count, place) in self.places.iter_mut().zip(PLACES) {
+                count[answer] += u32::from(at == place);
+            }
+            self.places[PLACES.len()][answer] += u32::from(last && at > 0);
+        }
+    }
+}
+
+#[test]
+fn matches_and_mismatches_hang_on_turned_bits() {
+    let mut turned = Turned::default();
+    for (case, outcome) in cases() {
+        let back = case_turned_back(&case);
+        let back_outcome = back.judged();
+        let mismatch = outcome.verdict.answer == answer::MISMATCH;
+        if back_outcome.verdict.answer == answer::MATCH && (mismatch || outcome == back_outcome) {
+            let differing = differing(&case, &back, &back_outcome);
+            turned.count(differing, outcome.verdict.answer as usize);
+        }
+    }
+    let tried = |counts: &[[u32; 2]], least| counts.iter().flatten().all(|&count| count >= least);
+    assert!(tried(&turned.some, 100), "{turned:?}");
+    assert!(tried(&turned.one, 50), "{turned:?}");
+    assert!(tried(&turned.places, 5), "{turned:?}");
+}
+
+/// Whether a name lies in a subtree with its very bytes.
+fn lies_in_as_written((service, domain): Pair, subtree: &[u8]) -> bool {
+    let (first, rest) = split(subtree);
+    match first.strip_prefix(b"_") {
+        Some(wanted) => service == wanted && domain.ends_with(rest),
+        None => domain.ends_with(subtree),
+    }
+}
+
+/// The SRVNames of a SAN, with their indexes.
+fn srv_names(case: &Case) -> Vec<(usize, &[u8])> {
+    let mut names = Vec::new();
+    let _read = san::read(&case.san, |name| names.push(name));
+    names.retain(|name| name.row.kind == SRV_ROW);
+    names
+        .iter()
+        .map(|name| (name.row.group, name.text))
+        .collect()
+}
+
+/// Whether one of these SRVNames lies in subtrees of a side, and in none of them
+/// with its very bytes.
+fn by_letters(case: &Case, side: usize, names: &[(usize, &[u8])]) -> bool {
+    let mut subtrees = Vec::new();
+    let _read = constraints::read(&case.constraints, |subtree| subtrees.push(subtree));
+    subtrees.retain(|subtree| subtree.row.kind == SRV_ROW && subtree.row.group == side);
+    let mut names = names.iter().filter_map(|(_, text)| srv_id(text));
+    names.any(|name| {
+        let inside = |lies: fn(Pair, &[u8]) -> bool| {
+            let mut subtrees = subtrees.iter();
+            subtrees.any(|subtree| lies(name, subtree.text))
+        };
+        inside(lies_in) && !inside(lies_in_as_written)
+    })
+}
+
+#[test]
+fn answer_2_hangs_on_turned_bits() {
+    // Kept by a permitted subtree in other letters; broken by an excluded one in
+    // other letters; broken as no SRV-ID, for a byte that is turned.
+    let (mut kept, mut excluded, mut no_srv_id) = (0, 0, 0);
+    for (case, outcome) in cases() {
+        let names = srv_names(&case);
+        let broken = outcome.verdict.presented as usize;
+        match outcome.verdict.answer {
+            0..=1 => kept += u32::from(by_letters(&case, PERMITTED, &names)),
+            answer::CONSTRAINTS_BROKEN => {
+                let broken: Vec<_> = names.into_iter().filter(|name| name.0 == broken).collect();
+                excluded += u32::from(by_letters(&case, EXCLUDED, &broken));
+                let back = case_turned_back(&case).judged().verdict.answer;
+                no_srv_id += u32::from(back <= 1);
+            }
+            _ => {}
+        }
+    }
+    let counts = [kept, excluded, no_srv_id];
+    assert!(counts.iter().all(|&count| count >= 100), "{counts:?}");
+}
+
 #[test]
 fn the_same_seed_gives_the_same_jobs() {
     for number in 0..500 {
@@ -287,6 +450,13 @@ fn every_answer_of_a_writer_is_frequent() {
     }
 }
 
+/// Whether a name or record is refused alone.
+fn is_bad(writer: Writer, kind: u8, texts: &[&[u8]]) -> bool {
+    let mut alone = Job::new(writer);
+    alone.push(kind, texts);
+    writer.write(&mut [], alone.lists()).answer == answer::UNFIT
+}
+
 /// What a job is.
 struct Told<'a> {
     job: &'a Job,
@@ -307,12 +477,7 @@ impl<'a> Told<'a> {
         if job.lengths.len() != each * job.kinds.len() || names.len() != job.kinds.len() {
             names.clear();
         }
-        let is_bad = |place: &usize| {
-            let (kind, texts) = &names[*place];
-            let mut alone = Job::new(job.writer);
-            alone.push(*kind, texts);
-            job.writer.write(&mut [], alone.lists()).answer == answer::UNFIT
-        };
+        let is_bad = |place: &usize| is_bad(job.writer, names[*place].0, &names[*place].1);
         let bad: Vec<usize> = (0..names.len()).filter(is_bad).collect();
         let size = match job.writer {
             Writer::Records => RECORD * names.len(),
@@ -353,7 +518,7 @@ impl<'a> Told<'a> {
 /// there for each of the two writers, and how it is told.
 type Decided = (&'static str, [u32; 2], fn(&Told) -> bool);
 
-const LISTS: [Decided; 25] = [
+const LISTS: [Decided; 26] = [
     ("no kinds, with texts", [200; 2], |told| {
         told.job.kinds.is_empty() && !told.job.texts.is_empty()
     }),
@@ -396,6 +561,14 @@ const LISTS: [Decided; 25] = [
     }),
     ("a byte above 127", [500; 2], |told| {
         told.any(0, |_, text| !text.is_ascii())
+    }),
+    ("bad for a turned bit alone", [300; 2], |told| {
+        told.bad.iter().any(|&place| {
+            let (kind, texts) = &told.names[place];
+            let texts: Vec<Vec<u8>> = texts.iter().map(|text| turned_back(text)).collect();
+            let texts: Vec<&[u8]> = texts.iter().map(Vec::as_slice).collect();
+            !is_bad(told.job.writer, *kind, &texts)
+        })
     }),
     ("only the first of several bad", [500; 2], |told| {
         told.names.len() > 1 && told.bad == [0]

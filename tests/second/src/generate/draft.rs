@@ -176,7 +176,7 @@ pub fn padded_constraints(size: usize) -> Node {
 }
 
 /// One to sixteen records, seldom none or more; each seldom a broken one, and
-/// one of them in one case of 35 with a domain of one label, or with one that
+/// one of them in one case of 26 with a domain of one label, or with one that
 /// ends in digits or nearly does.
 pub fn references(random: &mut Random, pool: &Pool, kinds: &[u8]) -> Vec<Vec<u8>> {
     let count = match random.below(60) {
@@ -192,7 +192,7 @@ pub fn references(random: &mut Random, pool: &Pool, kinds: &[u8]) -> Vec<Vec<u8>
         reference(random, pool, kind)
     };
     let mut records: Vec<Vec<u8>> = (0..count).map(|_| one(random)).collect();
-    if count > 0 && random.one_in(35) {
+    if count > 0 && random.one_in(26) {
         let kind = *random.pick(&[DNS, SRV, URI, CN]);
         let service = service(random, pool, kind);
         let domain = match random.below(2) {

@@ -1,6 +1,7 @@
 //! Jobs for the writers (request 4/13): lists of every size that decides, good
 //! ones, and ones with a fault or two.
 
+use super::flips::flipped;
 use super::words::{near_miss, Pool};
 use super::{Job, Random};
 use crate::examples::domain_of;
@@ -254,13 +255,14 @@ fn spoil_name(random: &mut Random, pool: &Pool, names: &mut [Name]) {
     let any = random.below(names.len());
     let name = &mut names[*random.pick(&[0, any, last, last])];
     let text = random.below(name.texts.len());
-    match random.below(8) {
+    match random.below(10) {
         0 => name.kind = *random.pick(&[0, 4, 5, 6, 128, 129, 255]),
         1 => name.kind = *random.pick(&[DNS, SRV, URI, CN]),
         2 if random.one_in(3) => name.texts.iter_mut().for_each(Vec::clear),
         2 => name.texts[text].clear(),
         3..=4 => past_ascii(random, name),
         5 => name.texts[text] = crooked(random, pool, name.kind),
+        6..=7 => name.texts[text] = flipped(random, name.texts[text].clone()),
         _ if name.texts[text].is_empty() => name.texts[text].push(b'm'),
         _ => name.texts[text] = near_miss(random, name.texts[text].clone()),
     }

@@ -2,7 +2,9 @@
 //! to written bytes, which do not.
 
 use super::draft::Draft;
+use super::flips::{flipped, other_case, CASE_BIT};
 use super::{Case, Random};
+use crate::records::{DOMAIN, SERVICE};
 use crate::tree::{bytes, Body, Length, Node};
 
 const TAGS: [u8; 33] = [
@@ -25,6 +27,55 @@ pub fn draft(random: &mut Random, draft: &mut Draft) {
         let chosen = random.below(size(root));
         change(random, nth(root, chosen));
     }
+}
+
+/// Turns bit 20 (hex) of some bytes in one text: of a tree, or of a record.
+pub fn texts(random: &mut Random, draft: &mut Draft) {
+    let tree = match random.below(5) {
+        0..=1 => &mut draft.san,
+        2 => &mut draft.subject,
+        3 => &mut draft.constraints,
+        _ => {
+            let place = random.below(draft.references.len().max(1));
+            if let Some(record) = draft.references.get_mut(place) {
+                flip_record(random, record);
+            }
+            return;
+        }
+    };
+    if let Some(root) = tree {
+        let chosen = random.below(size(root));
+        flip_last(random, nth(root, chosen));
+    }
+}
+
+/// Turns the bit in the last text of an element: its own, or that of its last
+/// child. An OID stands before another element.
+fn flip_last(random: &mut Random, node: &mut Node) {
+    match &mut node.body {
+        Body::Bytes(text) => *text = flipped(random, text.clone()),
+        Body::Parts(children) => {
+            if let Some(last) = children.last_mut() {
+                flip_last(random, last);
+            }
+        }
+    }
+}
+
+/// Turns the bit in the service or the domain of a record: mostly in letters.
+fn flip_record(random: &mut Random, record: &mut [u8]) {
+    let &[_, _, service, domain, ..] = &*record else {
+        return;
+    };
+    let (start, length) = *random.pick(&[(SERVICE, service), (DOMAIN, domain)]);
+    let Some(field) = record.get_mut(start..start + usize::from(length)) else {
+        return;
+    };
+    let text = match random.below(4) {
+        0 => flipped(random, field.to_vec()),
+        _ => other_case(random, field.to_vec()),
+    };
+    field.copy_from_slice(&text);
 }
 
 /// The number of elements of a tree.
@@ -94,7 +145,7 @@ fn edit(random: &mut Random, input: &mut Vec<u8>) {
         return input.push(random.byte());
     }
     let at = random.below(input.len());
-    match random.below(10) {
+    match random.below(12) {
         0 => input[at] ^= 1 << random.below(8),
         1 => input[at] = random.byte(),
         2 => input[at] = *random.pick(&[0x00, 0x2E, 0x7F, 0x80, 0xFF]),
@@ -104,6 +155,7 @@ fn edit(random: &mut Random, input: &mut Vec<u8>) {
         6 => input.insert(at, random.byte()),
         7 => drop(input.remove(at)),
         8 => input.insert(at, *random.pick(&[0x81, 0x82])),
+        9..=10 => input[at] ^= CASE_BIT,
         _ => {
             let end = random.between(at, input.len().min(at + 40));
             let copy = input[at..end].to_vec();

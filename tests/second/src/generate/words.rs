@@ -1,6 +1,7 @@
 //! Texts of names: domains, services and schemes that fit each other, and near
 //! misses.
 
+use super::flips::{flipped, other_case};
 use super::Random;
 use crate::examples::domain_of;
 use crate::text::has_two_labels;
@@ -213,7 +214,8 @@ fn base_domain(random: &mut Random) -> Vec<u8> {
     domain
 }
 
-fn joined(mut label: Vec<u8>, parent: &[u8]) -> Vec<u8> {
+/// A label, a dot and the labels behind it.
+pub fn joined(mut label: Vec<u8>, parent: &[u8]) -> Vec<u8> {
     label.push(b'.');
     label.extend(parent);
     label
@@ -281,31 +283,19 @@ fn scheme(random: &mut Random) -> Vec<u8> {
     }
 }
 
-/// The same text, in half of all cases with some letters in the other case.
-pub fn other_case(random: &mut Random, mut text: Vec<u8>) -> Vec<u8> {
-    if random.one_in(2) {
-        for byte in &mut text {
-            if byte.is_ascii_alphabetic() && random.one_in(3) {
-                *byte ^= 0x20;
-            }
-        }
-    }
-    text
-}
-
 /// A text one step away from this one, which is not empty.
 pub fn near_miss(random: &mut Random, mut text: Vec<u8>) -> Vec<u8> {
     const ODD: &[u8] = b".-*_@:/?#\0 a0Z\x7F";
     let at = random.below(text.len());
-    match random.below(12) {
-        0 => text[at] ^= 0x20,
-        1 => text[at] ^= 1 << random.below(7),
-        2 => text[at] = *random.pick(ODD),
-        3 => text.insert(at, *random.pick(ODD)),
-        4 => text.push(*random.pick(ODD)),
-        5 => drop(text.remove(at)),
-        6 => text.truncate(at),
-        7 => drop(text.splice(at..at, text.clone())),
+    match random.below(14) {
+        0..=2 => return flipped(random, text),
+        3 => text[at] ^= 1 << random.below(7),
+        4 => text[at] = *random.pick(ODD),
+        5 => text.insert(at, *random.pick(ODD)),
+        6 => text.push(*random.pick(ODD)),
+        7 => drop(text.remove(at)),
+        8 => text.truncate(at),
+        9 => drop(text.splice(at..at, text.clone())),
         _ => return other_labels(random, &text),
     }
     text
