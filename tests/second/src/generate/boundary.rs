@@ -3,6 +3,7 @@
 mod far;
 mod labels;
 mod lengths;
+mod letters;
 mod numbers;
 mod rows;
 mod uris;
@@ -44,6 +45,7 @@ pub fn each(take: Taker) {
     far::each(take);
     labels::each(take);
     lengths::each(take);
+    letters::each(take);
     numbers::each(take);
     rows::each(take);
     uris::each(take);
@@ -219,10 +221,8 @@ fn label_counts(take: Taker) {
 /// The same name as reference and as presented identifier.
 fn same(kind: u8, service: &[u8], domain: &[u8]) -> Line {
     let entry = match kind {
-        DNS => dns_name(domain),
-        SRV => srv_name(&[b"_", service, b".", domain].concat()),
-        URI => uri_name(&[service, b"://", domain].concat()),
-        _ => email(b""),
+        CN => email(b""),
+        _ => general_name(kind, &name_text(kind, service, domain)),
     };
     let subject = subject(vec![rdn(vec![common_name(0x13, domain)])]).write();
     let service = if matches!(kind, SRV | URI) {
