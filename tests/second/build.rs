@@ -1,6 +1,9 @@
-//! Links `libbeckethand.a` when the feature `archive` asks for it. It lies in
-//! the folder named by `BECKETHAND_LIB_DIR`, or else in
-//! `../../target/staticlib`, seen from this package.
+//! Links the archives of the other implementation when the feature `archive`
+//! asks for them. `libbeckethand.a` is what the kiosk's C program links.
+//! `libprobe.a` is for measuring and comparing alone: its one function compares
+//! two texts without case (request 5/13). Both lie in the folder named by
+//! `BECKETHAND_LIB_DIR`, or else in `../../target/staticlib`, seen from this
+//! package.
 
 use std::env;
 use std::path::PathBuf;
@@ -11,16 +14,19 @@ fn main() {
     if env::var_os("CARGO_FEATURE_ARCHIVE").is_none() {
         return;
     }
-    let archive = folder().join("libbeckethand.a");
-    println!("cargo:rerun-if-changed={}", archive.display());
-    assert!(
-        archive.is_file(),
-        "{} is missing: build it, or name its folder in BECKETHAND_LIB_DIR",
-        archive.display()
-    );
-    // The archive defines the `beckethand_` functions and nothing else that a
-    // linker sees, no panic handler either; of others it needs `memset` alone.
-    println!("cargo:rustc-link-arg={}", archive.display());
+    // They define the `beckethand_` functions and `probe_same_text`, and nothing
+    // else that a linker sees, no panic handler either; of others they need
+    // `memset` alone.
+    for name in ["libbeckethand.a", "libprobe.a"] {
+        let archive = folder().join(name);
+        println!("cargo:rerun-if-changed={}", archive.display());
+        assert!(
+            archive.is_file(),
+            "{} is missing: build it, or name its folder in BECKETHAND_LIB_DIR",
+            archive.display()
+        );
+        println!("cargo:rustc-link-arg={}", archive.display());
+    }
 }
 
 fn folder() -> PathBuf {

@@ -1,4 +1,5 @@
-//! The other implementation, called through the C interface of its archive.
+//! The other implementation, called through the C interface of its archive; and
+//! its comparison of two texts, which a second archive gives.
 
 use crate::name::Row;
 use crate::records::RecordView;
@@ -97,6 +98,11 @@ extern "C" {
     ) -> CListed;
     fn beckethand_opening(bytes: *const u8, bytes_len: usize, which: usize) -> u32;
     fn beckethand_view(bytes: *const u8, bytes_len: usize, which: usize, at: usize) -> CSight;
+}
+
+// Of `libprobe.a`, and no part of the C interface.
+extern "C" {
+    fn probe_same_text(a: *const u8, a_len: usize, b: *const u8, b_len: usize) -> u32;
 }
 
 /// Pointer and length; NULL for an empty slice, as C programs write it.
@@ -231,4 +237,12 @@ pub fn write(writer: Writer, buffer: &mut [u8], lists: Lists<'_>) -> CWritten {
             kinds_count,
         )
     }
+}
+
+/// Whether two texts are the same without case (request 5/13): 1, or 0.
+pub fn same_text(one: &[u8], other: &[u8]) -> u32 {
+    let (one, one_len) = pair(one);
+    let (other, other_len) = pair(other);
+    // SAFETY: as in `call`.
+    unsafe { probe_same_text(one, one_len, other, other_len) }
 }

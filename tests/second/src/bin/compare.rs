@@ -2,11 +2,13 @@
 //!
 //! `compare --cases N --seed S` runs the desk examples, the boundary tables and
 //! N generated cases, and ends with 1 if an answer, a kind of match, something
-//! that a viewer shows or an answer of a writer never occurred. With `--first K`
-//! it runs the N cases from number K on and nothing else. `compare --soak` runs
-//! cases under fresh seeds until it is stopped. All end with 1 at the first
-//! difference.
+//! that a viewer shows, an answer of a writer or one about two texts never
+//! occurred. With `--first K` it runs the N cases from number K on and nothing
+//! else. `compare --soak` runs cases under fresh seeds until it is stopped. All
+//! end with 1 at the first difference.
 
+#[path = "compare/texts.rs"]
+mod texts;
 #[path = "compare/writers.rs"]
 mod writers;
 
@@ -87,6 +89,7 @@ fn fixed(cases: u64, seed: u64) -> Result<(), String> {
     let started = Instant::now();
     tables()?;
     writer_table()?;
+    text_table()?;
     let tally = generated(cases, seed, 0)?;
     tally.print();
     let seconds = started.elapsed().as_secs_f64();
@@ -138,6 +141,14 @@ fn writer_table() -> Result<(), String> {
     result
 }
 
+/// The table of pairs of texts.
+fn text_table() -> Result<(), String> {
+    let mut tally = texts::Tally::default();
+    let result = texts::compare_table(&mut tally);
+    println!("{} pairs of texts", tally.count());
+    result
+}
+
 /// The generated cases of one seed.
 fn generated(cases: u64, seed: u64, first: u64) -> Result<Tally, String> {
     let mut tally = Tally::default();
@@ -149,6 +160,7 @@ fn generated(cases: u64, seed: u64, first: u64) -> Result<Tally, String> {
             let writers = &mut tally.writers;
             result = result.and_then(|()| writers::compare_job(job, &mut old.bytes, writers));
         }
+        result = result.and_then(|()| texts::compare_pairs(seed, number, &mut tally.texts));
         result.map_err(|difference| format!("seed {seed}, case {number}\n{difference}"))?;
     }
     Ok(tally)
@@ -450,13 +462,15 @@ fn hex(bytes: &[u8]) -> String {
 }
 
 /// How often each answer and each kind of match occurred, what viewers of each
-/// of the three strings showed, and what writers answered.
+/// of the three strings showed, what writers answered, and how many pairs of
+/// texts were the same.
 #[derive(Default)]
 struct Tally {
     answers: [u64; 9],
     matches: [u64; MATCHES.len()],
     viewers: [ViewerTally; 3],
     writers: writers::Tally,
+    texts: texts::Tally,
 }
 
 /// What viewers of one string showed.
@@ -514,11 +528,11 @@ impl Tally {
         let matches = matches.map(|(name, count)| (format!("match by {name}"), count));
         let viewers = Which::ALL.into_iter().zip(&self.viewers);
         let viewers = viewers.flat_map(|(which, tally)| tally.lines(which));
-        let writers = self.writers.lines();
         answers
             .chain(matches)
             .chain(viewers)
-            .chain(writers)
+            .chain(self.writers.lines())
+            .chain(self.texts.lines())
             .collect()
     }
 

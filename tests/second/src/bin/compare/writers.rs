@@ -8,7 +8,8 @@ use second::generate::{Case, Job, Random};
 use second::name::kind as row_kind;
 use second::records::kind::{CN, DNS, SRV};
 use second::records::References;
-use second::tree::{common_name, rdn, subject};
+use second::text::same_text;
+use second::tree::{common_name, name_text, rdn, subject};
 use second::{answer, list, san, Lists, RecordView, Row, Which, Writer};
 use std::fmt;
 
@@ -230,9 +231,7 @@ impl<'a> Exact<'a> {
         };
         let verdict = archive::judge(inputs).verdict;
         let same = |(other, its_service, its_domain): &Record| {
-            *other == kind
-                && its_service.eq_ignore_ascii_case(service)
-                && its_domain.eq_ignore_ascii_case(domain)
+            *other == kind && same_text(its_service, service) && same_text(its_domain, domain)
         };
         let first = records.iter().position(same).unwrap_or(asked) as u32;
         let found = (verdict.answer, verdict.reference);
@@ -269,11 +268,7 @@ fn certificate(kind: u8, service: &[u8], domain: &[u8]) -> Result<(Vec<u8>, Vec<
         let name = subject(vec![rdn(vec![common_name(0x0C, domain)])]);
         return Ok((Vec::new(), name.write()));
     }
-    let text = match kind {
-        DNS => domain.to_vec(),
-        SRV => [b"_", service, b".", domain].concat(),
-        _ => [service, b"://", domain].concat(),
-    };
+    let text = name_text(kind, service, domain);
     let job = Job::san([(kind, text.as_slice())]);
     let mut buffer = vec![0; Writer::San.longest()];
     let written = archive::write(Writer::San, &mut buffer, job.lists());
