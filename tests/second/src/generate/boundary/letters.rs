@@ -13,13 +13,13 @@ use crate::tree::*;
 /// Hands over the lines about letters.
 pub fn each(take: Taker) {
     let long = [LABEL.as_slice(), b".b"].concat();
-    let words: [Pair; 4] = [
+    let all: [Pair; 4] = [
         (b"aZ-9k", b"k-Z.1s.b"),
         (b"xn--K", b"XN--p1.A-b"),
         (b"m", &long),
         (&LABEL[..62], b"a.b"),
     ];
-    for (service, domain) in words {
+    for (service, domain) in all {
         names(take, service, domain);
         records(take, service, domain);
         restrictions(take, service, domain);
@@ -29,6 +29,7 @@ pub fn each(take: Taker) {
     no_letters(take);
     every_pair(take);
     lengths(take);
+    late_differences(take);
     longer_names(take);
     swapped(take);
     look_alikes(take);
@@ -139,9 +140,9 @@ fn whole_texts(take: Taker, service: &[u8], domain: &[u8]) {
         ]
     };
     let (services, domains) = (texts(service), texts(domain));
-    let words = || services.iter().zip(&domains);
-    for presented in words() {
-        for asked in words() {
+    let both = || services.iter().zip(&domains);
+    for presented in both() {
+        for asked in both() {
             pair(take, (presented.0, presented.1), (asked.0, asked.1));
         }
     }
@@ -159,13 +160,14 @@ fn longest_texts(take: Taker) {
     }
 }
 
-/// Texts that have no letter in their first place, next to the multiples of eight
-/// before 16 and in their last place.
+/// Labels that have no letter in places 0, 7, 8, 15 and 16 nor in the last, and
+/// schemes with each byte that is neither letter nor digit.
 fn no_letters(take: Taker) {
     let label: Vec<u8> = b"1-90a".iter().copied().cycle().take(63).collect();
     names(take, b"m", &[b"1.", label.as_slice()].concat());
     changed_names(take, SRV, &label[..58], b"a.b");
     changed_names(take, URI, &[b"k", &label[1..]].concat(), b"a.b");
+    changed_names(take, URI, b"k+Z.9-", b"a.b");
 }
 
 /// Where a byte stands in a name: the name's kind, and what is around the byte.
@@ -250,18 +252,33 @@ fn crowd(kind: u8, texts: &[Vec<u8>], references: &[u8]) -> Case {
     case
 }
 
-/// Words of which one has a byte less than the other, at its end or before it, in
-/// a domain and as a service or scheme.
+/// Two words, as labels of a domain and as services or schemes.
+fn words(take: Taker, one: &[u8], other: &[u8]) {
+    let domains = [one, other].map(|word| [word, b".b"].concat());
+    pair(take, (b"m", &domains[0]), (b"m", &domains[1]));
+    pair(take, (one, b"a.b"), (other, b"a.b"));
+}
+
+/// Words of which one has a byte less than the other, at its end or before it,
+/// and words of the same length.
 fn lengths(take: Taker) {
     for length in [2, 8, 9, 16, 17, 62, 63] {
         let whole = &LABEL[..length];
         for less in [&whole[1..], &whole[..length - 1]] {
-            for (one, other) in [(whole, less), (less, whole)] {
-                let domains = [one, other].map(|word| [word, b".b"].concat());
-                pair(take, (b"m", &domains[0]), (b"m", &domains[1]));
-                pair(take, (one, b"a.b"), (other, b"a.b"));
-            }
+            words(take, whole, less);
+            words(take, less, whole);
         }
+        words(take, whole, &whole.to_ascii_lowercase());
+    }
+}
+
+/// Words in which every letter is in the other case, and one is another letter.
+fn late_differences(take: Taker) {
+    for place in [1, 7, 8, 15, 16, 31, 61] {
+        let mut word = LABEL[..62].to_ascii_uppercase();
+        let asked = word.to_ascii_lowercase();
+        word[place] = if asked[place] == b'q' { b'Z' } else { b'Q' };
+        words(take, &word, &asked);
     }
 }
 
@@ -278,19 +295,19 @@ fn longer_names(take: Taker) {
     }
 }
 
-/// Words that have the same bytes in another order, or the same sum of them.
+/// Words that have the same bytes in another order or the same sum of them, or
+/// that differ in their last label alone.
 fn swapped(take: Taker) {
-    const WORDS: [(&str, &str); 5] = [
+    const WORDS: [(&str, &str); 6] = [
         ("ab", "ba"),
         ("a1", "1a"),
         ("Zab", "baz"),
         ("az", "by"),
         ("a.bb", "ab.b"),
+        ("a.b.c.d.e", "a.b.c.d.f"),
     ];
     for (one, other) in WORDS {
-        let domains = [one, other].map(|word| [word.as_bytes(), b".b"].concat());
-        pair(take, (b"m", &domains[0]), (b"m", &domains[1]));
-        pair(take, (one.as_bytes(), b"a.b"), (other.as_bytes(), b"a.b"));
+        words(take, one.as_bytes(), other.as_bytes());
     }
 }
 
