@@ -4,6 +4,7 @@
 use second::constraints::{self, EXCLUDED, PERMITTED};
 use second::generate::buffers::buffers;
 use second::generate::lists::jobs;
+use second::generate::texts::pairs;
 use second::generate::{case, Case, Job, Random};
 use second::name::kind::{CN as CN_ROW, DNS as DNS_ROW, SRV as SRV_ROW, URI as URI_ROW};
 use second::name::Name;
@@ -419,6 +420,55 @@ fn answer_2_hangs_on_turned_bits() {
     }
     let counts = [kept, excluded, no_srv_id];
     assert!(counts.iter().all(|&count| count >= 100), "{counts:?}");
+}
+
+/// A kind of pair of texts: what it is, how often it must be there, and how it
+/// is told.
+type Paired = (&'static str, u32, fn(&[u8], &[u8]) -> bool);
+
+const PAIRED: [Paired; 7] = [
+    ("the same, not as written", 20_000, |one, other| {
+        one != other && same_text(one, other)
+    }),
+    ("one letter in the other case", 2_000, |one, other| {
+        one_bit(one, other) && same_text(one, other)
+    }),
+    ("one byte that is no letter turned", 10_000, |one, other| {
+        one_bit(one, other) && !same_text(one, other)
+    }),
+    ("a byte more", 2_000, |one, other| {
+        one.len() == other.len() + 1 && one.starts_with(other)
+    }),
+    ("two empty texts", 500, |one, other| {
+        one.is_empty() && other.is_empty()
+    }),
+    ("63 bytes, the same", 500, |one, other| {
+        one.len() == 63 && same_text(one, other)
+    }),
+    ("253 bytes, the same", 500, |one, other| {
+        one.len() == 253 && same_text(one, other)
+    }),
+];
+
+/// Whether two texts differ in bit 20 (hex) of one byte and in nothing else.
+fn one_bit(one: &[u8], other: &[u8]) -> bool {
+    let mut different = one.iter().zip(other).filter(|(one, other)| one != other);
+    let first = different.next();
+    let turned = first.is_some_and(|(one, other)| one ^ other == 0x20);
+    one.len() == other.len() && turned && different.next().is_none()
+}
+
+#[test]
+fn pairs_of_texts_are_of_every_kind() {
+    let mut counts = [0; PAIRED.len()];
+    for (one, other) in (0..CASES).flat_map(|number| pairs(7, number)) {
+        for (count, (_, _, is)) in counts.iter_mut().zip(PAIRED) {
+            *count += u32::from(is(&one, &other));
+        }
+    }
+    for (count, (what, least, _)) in counts.into_iter().zip(PAIRED) {
+        assert!(count >= least, "{what}: {count} of {}", 4 * CASES);
+    }
 }
 
 #[test]

@@ -157,7 +157,7 @@ fn label(random: &mut Random, longest: usize) -> Vec<u8> {
     label
 }
 
-/// A scheme, half of the time with a byte that no label has.
+/// A scheme, half of the time with `+`, `-` or `.` somewhere.
 fn scheme(random: &mut Random) -> Vec<u8> {
     let mut scheme = label(random, LONGEST_SCHEME);
     if random.one_in(2) {
