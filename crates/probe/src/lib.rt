@@ -1,4 +1,5 @@
-// What `make bench` calls to time the comparison of texts by itself. It is no part of the archive for users.
+// The comparison of texts by itself, for `make bench` to time and for the second program to hold against its own. It has an archive of
+// its own, and is no part of the one that users link.
 ghost use mathlib.Core.Path.{_≡_};
 ghost use mathlib.Core.Bool.{cond};
 ghost use Rattle.rules.specs.Names.{sameText};
