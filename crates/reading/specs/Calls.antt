@@ -2,13 +2,15 @@
 -- demands are about them.
 use Prim.Native.Nat.{ℕ}
 use mathlib.Core.Bool.{cond}
-use mathlib.Core.List.{List}
+use mathlib.Core.List.{List, map}
+use mathlib.Core.Option.{Option, none, some}
 use lib.Dec.{eqb}
 use Rattle.rules.specs.Numbers.{sanUnreadable, subjectUnreadable, constraintsUnreadable}
-use Rattle.rules.specs.San.{sanGrammar}
+use Rattle.rules.specs.Der.{Member}
+use Rattle.rules.specs.San.{GeneralName, sanGrammar}
 use Rattle.rules.specs.Subject.{subjectGrammar}
 use Rattle.rules.specs.Constraints.{constraintsGrammar}
-use Rattle.rules.specs.Seen.{Seen, seenRecords}
+use Rattle.rules.specs.Seen.{Seen, tooLong, stringsBy, together, seenRecords}
 use Rattle.rules.specs.Verdict.{outcomeOf, numbersOf, witnessPart, witnessText, witnessPlace}
 use Rattle.rules.specs.Listing.{rowsSeen, listedOf, tableAfter}
 use Rattle.rules.specs.Viewer.{viewOf, openingOf}
@@ -22,20 +24,31 @@ use Rattle.reading.specs.Views.{seenSan, seenSubject, seenConstraints}
 
 -- ---- the verdict and its witness
 
--- "It hands over four byte strings": any bytes at all
+-- "It hands over four byte strings": any bytes at all. The constraints are those of all issuers, end to end; their lengths are any
+-- numbers, or none at all, where C hands over an odd count of bytes
 pub record Inputs : Type 0 where
   pub san : List ℕ
   pub subject : List ℕ
   pub constraints : List ℕ
+  pub lengths : Option (List ℕ)
   pub references : List ℕ
 
-abbrev pub inputs : List ℕ → List ℕ → List ℕ → List ℕ → Inputs
-inputs san subject constraints references =
-    record { san = san; subject = subject; constraints = constraints; references = references }
+abbrev pub inputs : List ℕ → List ℕ → List ℕ → Option (List ℕ) → List ℕ → Inputs
+inputs san subject constraints lengths references =
+    record { san = san; subject = subject; constraints = constraints; lengths = lengths; references = references }
+
+-- what is seen of the constraints of all issuers: wrong lengths are too long
+abbrev pub seenAll : Option (List (List ℕ)) → Seen (List (Member GeneralName))
+seenAll none = tooLong
+seenAll (some strings) = together (map seenConstraints strings)
+
+unfoldable pub seenIssuers : Option (List ℕ) → List ℕ → Seen (List (Member GeneralName))
+seenIssuers lengths constraints = seenAll (stringsBy lengths constraints)
 
 -- how the verdict ends
 unfoldable pub outcomeOn : Inputs → Outcome
-outcomeOn i = outcomeOf (seenRecords (i .references)) (seenSan (i .san)) (seenSubject (i .subject)) (seenConstraints (i .constraints))
+outcomeOn i =
+    outcomeOf (seenRecords (i .references)) (seenSan (i .san)) (seenSubject (i .subject)) (seenIssuers (i .lengths) (i .constraints))
 
 -- its numbers
 unfoldable pub verdictOn : Inputs → Verdict

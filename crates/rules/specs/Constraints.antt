@@ -5,7 +5,7 @@ use mathlib.Core.List.{List, [], _∷_, _++_}
 use lib.ListN.{length}
 use lib.Dec.{eqb, ltb}
 use Rattle.rules.specs.Bytes.{some?, all, chain, same}
-use Rattle.rules.specs.Names.{restriction}
+use Rattle.rules.specs.Names.{restriction, dnsRestriction}
 use Rattle.rules.specs.Der.{element, header, run, Member, Group, groups, rowsOfGroups, Grammar}
 use Rattle.rules.specs.San.{GeneralName, plain, other, srvOid, goodName, writeName, nameKind}
 use Rattle.rules.specs.declared.Row.{Row}
@@ -17,9 +17,9 @@ permitted = 0
 abbrev pub excluded : ℕ
 excluded = 1
 
--- "An SRVName here has one of three texts"
+-- "An SRVName here has one of three texts". 6/13, of a dNSName: "any other text must be a domain, else 5"
 unfoldable pub goodRestriction : GeneralName → Bool
-goodRestriction (plain t c) = true
+goodRestriction (plain t c) = not (eqb t 0x82) || dnsRestriction c
 goodRestriction (other o t c) = not (same o srvOid) || restriction c
 
 unfoldable pub goodSubtree : GeneralName → Bool

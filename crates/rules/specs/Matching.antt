@@ -1,4 +1,4 @@
--- Which presented identifiers a reference is held against, the first pair that matches, and the constraints on SRVNames.
+-- Which presented identifiers a reference is held against, the first pair that matches, and the first breach of the constraints.
 -- Everything here is a function of lists of names.
 use Prim.Native.Nat.{ℕ, suc}
 use mathlib.Core.Bool.{Bool, true, false, cond, not, _&&_, _||_}
@@ -7,13 +7,14 @@ use mathlib.Core.Option.{Option, none, some}
 use lib.Dec.{eqb}
 use Rattle.rules.specs.Bytes.{some?, any, count, find, same}
 use Rattle.rules.specs.Numbers.{dnsKind, srvKind, uriKind, cnKind}
-use Rattle.rules.specs.Names.{dnsMatches, srvId, srvMatches, uriMatches, inSubtree}
+use Rattle.rules.specs.Names.{dnsMatches, dnsId, dnsWithin, dnsReaches, srvId, srvMatches, uriMatches, inSubtree}
 use Rattle.rules.specs.Records.{Reference}
 use Rattle.rules.specs.Der.{Member}
 use Rattle.rules.specs.San.{GeneralName, plain, other, srvOid, sanGrammar}
 use Rattle.rules.specs.Subject.{Attribute, isCn, cnTag, subjectGrammar}
 use Rattle.rules.specs.Constraints.{permitted, excluded}
 use Rattle.rules.specs.declared.Row.{Row}
+use Rattle.rules.specs.declared.Breach.{Breach}
 
 -- ---- the texts of names
 
@@ -108,27 +109,54 @@ abbrev pub withSome : {A : Type 0} → Option A → List A → List A
 withSome none l = l
 withSome (some a) l = a ∷ l
 
--- the texts of the SRVName subtrees of a side. "Other forms in the constraints are read and passed over."
-unfoldable pub srvSubtrees : ℕ → List (Member GeneralName) → List (List ℕ)
-srvSubtrees side [] = []
-srvSubtrees side (m ∷ l) = withSome (cond (eqb (m .group) side) (srvText (m .value)) none) (srvSubtrees side l)
+-- a form of names: the text of a name of this form, which texts are its identifiers, when an identifier lies in a subtree, and when it
+-- breaks an excluded one
+pub record Form : Type 0 where
+  pub text : GeneralName → Option (List ℕ)
+  pub id : List ℕ → Bool
+  pub inside : List ℕ → List ℕ → Bool
+  pub reaches : List ℕ → List ℕ → Bool
 
-unfoldable pub liesIn : List (List ℕ) → List ℕ → Bool
-liesIn subtrees text = any (λ s. inSubtree s text) subtrees
+abbrev pub srvForm : Form
+srvForm = record { text = srvText; id = srvId; inside = inSubtree; reaches = inSubtree }
+
+-- 6/13: "Add dNSName subtrees .., permitted and excluded as for SRVNames"
+abbrev pub dnsForm : Form
+dnsForm = record { text = taggedText 0x82; id = dnsId; inside = dnsWithin; reaches = dnsReaches }
+
+-- the texts of the subtrees of a form on a side. "Other forms in the constraints are read and passed over."
+unfoldable pub subtreesOf : Form → ℕ → List (Member GeneralName) → List (List ℕ)
+subtreesOf form side [] = []
+subtreesOf form side (m ∷ l) = withSome (cond (eqb (m .group) side) (form .text (m .value)) none) (subtreesOf form side l)
 
 -- "if the constraints hold any SRVName subtree, each presented SRVName must be an SRV-ID, lie in no excluded SRVName
--- subtree, and, if any permitted SRVName subtree exists, lie in one". 2/13: "no SRV-ID, so 2 where SRVName subtrees exist"
-unfoldable pub allowed : List (Member GeneralName) → List ℕ → Bool
-allowed constraints text =
-    let inside = srvSubtrees permitted constraints in
-    let outside = srvSubtrees excluded constraints in
+-- subtree, and, if any permitted SRVName subtree exists, lie in one". 2/13: "no SRV-ID, so 2 where SRVName subtrees exist". 6/13, the
+-- same of dNSNames: "With any dNSName subtree in a string, a dNSName that is no DNS-ID breaks it."
+unfoldable pub allowed : Form → List (Member GeneralName) → List ℕ → Bool
+allowed form constraints text =
+    let inside = subtreesOf form permitted constraints in
+    let outside = subtreesOf form excluded constraints in
     (not (some? inside) && not (some? outside))
-    || (srvId text && not (liesIn outside text) && (not (some? inside) || liesIn inside text))
+    || (form .id text && not (any (λ s. form .reaches s text) outside)
+    && (not (some? inside) || any (λ s. form .inside s text) inside))
+
+-- a name of this form that a string does not allow
+unfoldable pub breaksAs : Form → List (Member GeneralName) → GeneralName → Bool
+breaksAs form constraints n = if-some (form .text n) (λ text. not (allowed form constraints text))
 
 unfoldable pub breaks : List (Member GeneralName) → GeneralName → Bool
-breaks constraints n = if-some (srvText n) (λ text. not (allowed constraints text))
+breaks constraints n = breaksAs srvForm constraints n || breaksAs dnsForm constraints n
 
--- the index of the first entry that breaks them; the entries count from i
+-- the index of the first entry that breaks a string; the entries count from i
 unfoldable pub firstBroken : ℕ → List (Member GeneralName) → List GeneralName → Option ℕ
 firstBroken i constraints [] = none
 firstBroken i constraints (n ∷ l) = cond (breaks constraints n) (some i) (firstBroken (suc i) constraints l)
+
+abbrev pub breachOr : ℕ → Option ℕ → Option Breach → Option Breach
+breachOr i none next = next
+breachOr i (some j) next = some (record { issuer = i; presented = j })
+
+-- 6/13: "All of them must hold." "lowest issuer first, then lowest name": the issuers count from i
+unfoldable pub firstBreach : ℕ → List (List (Member GeneralName)) → List GeneralName → Option Breach
+firstBreach i [] san = none
+firstBreach i (c ∷ cs) san = breachOr i (firstBroken 0 c san) (firstBreach (suc i) cs san)

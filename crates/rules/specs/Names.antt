@@ -140,6 +140,29 @@ labelsMatch (p ∷ ps) (r ∷ rs) = leftmostMatches p r && sameLabels ps rs
 unfoldable pub dnsMatches : List ℕ → List ℕ → Bool
 dnsMatches reference text = dnsId text && labelsMatch (labels text) (labels reference)
 
+-- ---- dNSName subtrees
+
+-- 6/13: "an empty text contains every name; any other text must be a domain, else 5"
+unfoldable pub dnsRestriction : List ℕ → Bool
+dnsRestriction s = not (some? s) || domain s
+
+-- the labels that a subtree asks for: an empty text asks for none
+unfoldable pub subtreeLabels : List ℕ → List (List ℕ)
+subtreeLabels [] = []
+subtreeLabels (b ∷ s) = labels (b ∷ s)
+
+-- 6/13: "zero or more labels added on the left": the subtree's labels are the name's last labels, "the star taken as an ordinary label"
+unfoldable pub dnsWithin : List ℕ → List ℕ → Bool
+dnsWithin subtree name = lastLabels (subtreeLabels subtree) (labels name)
+
+-- 6/13: "one label and then the text after `*.`"
+unfoldable pub oneLabelThen : List ℕ → List ℕ → Bool
+oneLabelThen text subtree = sameLabels (labels text) (drop 1 (labels subtree))
+
+-- 6/13: "A wildcard name lies in a subtree if .. It also breaks an excluded subtree made of one label and then the text after `*.`"
+unfoldable pub dnsReaches : List ℕ → List ℕ → Bool
+dnsReaches subtree name = dnsWithin subtree name || (wildcard name && oneLabelThen (drop 2 name) subtree)
+
 -- ---- SRV-ID
 
 -- "a service (1 to 62 letters, digits, hyphens, no hyphen at an end)"

@@ -1,14 +1,14 @@
 -- The numbers that the kiosk sees, each named once.
 use Prim.Native.Nat.{ℕ}
 
--- "A verdict is five numbers: answer, reference index, presented index, start, length." The answers:
+-- "A verdict is five numbers: answer, reference index, presented index, start, length", and since 6/13 the issuer's index. The answers:
 abbrev pub match : ℕ
 match = 0
 
 abbrev pub mismatch : ℕ
 mismatch = 1
 
--- an SRVName breaks the constraints
+-- an SRVName or a dNSName breaks the constraints of an issuer
 abbrev pub constraintsBroken : ℕ
 constraintsBroken = 2
 
@@ -58,6 +58,10 @@ subjectLimit = 4096
 
 abbrev pub constraintsLimit : ℕ
 constraintsLimit = 16384
+
+-- 6/13: "Take 0 to 8 constraint strings"; "each keeps its own length limit"
+abbrev pub mostIssuers : ℕ
+mostIssuers = 8
 
 abbrev pub recordsLimit : ℕ
 recordsLimit = 5120

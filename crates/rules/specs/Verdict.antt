@@ -1,4 +1,4 @@
--- The verdict: its outcome, its five numbers, and the witness's text. Document 01, "Numbers the kiosk sees".
+-- The verdict: its outcome, its six numbers, and the witness's text. Document 01, "Numbers the kiosk sees".
 use Prim.Native.Nat.{ℕ, _+_, _-_}
 use mathlib.Core.Bool.{Bool, true, false, cond, _||_}
 use mathlib.Core.List.{List, []}
@@ -12,7 +12,7 @@ use Rattle.rules.specs.Der.{Member}
 use Rattle.rules.specs.San.{GeneralName}
 use Rattle.rules.specs.Subject.{Attribute}
 use Rattle.rules.specs.Seen.{Seen, tooLong, unreadable, listed}
-use Rattle.rules.specs.Matching.{Presented, Pair, firstPair, firstBroken}
+use Rattle.rules.specs.Matching.{Presented, Pair, firstPair, firstBreach}
 use Rattle.rules.specs.declared.Row.{Row}
 use Rattle.rules.specs.declared.Place.{Place}
 use Rattle.rules.specs.declared.Witness.{Witness}
@@ -62,17 +62,17 @@ abbrev pub matchedOr : Option Pair → Outcome
 matchedOr none = Mismatched
 matchedOr (some w) = Matched (witnessOf w)
 
-abbrev pub brokenOr : Option ℕ → Outcome → Outcome
+abbrev pub brokenOr : Option Breach → Outcome → Outcome
 brokenOr none o = o
-brokenOr (some i) o = Broken (record { presented = i })
+brokenOr (some b) o = Broken b
 
 -- all four inputs are read: the constraints first, "even if another name would match", then the first pair
-unfoldable pub judged : List Reference → List GeneralName → List (Member Attribute) → List (Member GeneralName) → Outcome
+unfoldable pub judged : List Reference → List GeneralName → List (Member Attribute) → List (List (Member GeneralName)) → Outcome
 judged references san subject constraints =
-    brokenOr (firstBroken 0 constraints san) (matchedOr (firstPair 0 references san subject))
+    brokenOr (firstBreach 0 constraints san) (matchedOr (firstPair 0 references san subject))
 
--- "Order for a verdict: 7 for any of the four inputs, then 6, 3, 4, 5, 2, then 0 or 1."
-unfoldable pub outcomeOf : Seen Reference → Seen GeneralName → Seen (Member Attribute) → Seen (Member GeneralName) → Outcome
+-- "Order for a verdict: 7 for any of the four inputs, then 6, 3, 4, 5, 2, then 0 or 1." The constraints are those of all issuers
+unfoldable pub outcomeOf : Seen Reference → Seen GeneralName → Seen (Member Attribute) → Seen (List (Member GeneralName)) → Outcome
 outcomeOf references san subject constraints =
     cond (isLong references || isLong san || isLong subject || isLong constraints) (Refused inputTooLong)
     (cond (isUnreadable references) (Refused recordsUnreadable)
@@ -81,22 +81,23 @@ outcomeOf references san subject constraints =
     (cond (isUnreadable constraints) (Refused constraintsUnreadable)
     (judged (listOf references) (listOf san) (listOf subject) (listOf constraints))))))
 
--- ---- the five numbers
+-- ---- the six numbers
 
--- "A verdict is five numbers: answer, reference index, presented index, start, length."
-abbrev pub numbers : ℕ → ℕ → ℕ → ℕ → ℕ → Verdict
-numbers answer reference presented start size =
-    record { answer = answer; reference = reference; presented = presented; start = start; length = size }
+-- "A verdict is five numbers: answer, reference index, presented index, start, length." 6/13: "The verdict record grows a sixth number,
+-- the issuer's index, zero except with answer 2"
+abbrev pub numbers : ℕ → ℕ → ℕ → ℕ → ℕ → ℕ → Verdict
+numbers answer reference presented start size issuer =
+    record { answer = answer; reference = reference; presented = presented; start = start; length = size; issuer = issuer }
 
 -- the table of answers: "zeros", "presented index of the first that does; the rest zero", "the witnessing pair, and its
 -- element's place"
 unfoldable pub numbersOf : Outcome → Verdict
-numbersOf (Refused answer) = numbers answer 0 0 0 0
-numbersOf (Broken b) = numbers constraintsBroken 0 (b .presented) 0 0
-numbersOf (Matched w) = numbers match (w .reference) (w .presented) (w .element .start) (w .element .length)
-numbersOf Mismatched = numbers mismatch 0 0 0 0
+numbersOf (Refused answer) = numbers answer 0 0 0 0 0
+numbersOf (Broken b) = numbers constraintsBroken 0 (b .presented) 0 0 (b .issuer)
+numbersOf (Matched w) = numbers match (w .reference) (w .presented) (w .element .start) (w .element .length) 0
+numbersOf Mismatched = numbers mismatch 0 0 0 0 0
 
-unfoldable pub verdictOf : Seen Reference → Seen GeneralName → Seen (Member Attribute) → Seen (Member GeneralName) → Verdict
+unfoldable pub verdictOf : Seen Reference → Seen GeneralName → Seen (Member Attribute) → Seen (List (Member GeneralName)) → Verdict
 verdictOf references san subject constraints = numbersOf (outcomeOf references san subject constraints)
 
 -- ---- the witness's text, as a part of the certificate's own bytes

@@ -41,6 +41,9 @@ pub const CONSTRAINTS_LIMIT: usize = 16384;
 
 pub const RECORDS_LIMIT: usize = 5120;
 
+// The most issuers whose constraints are handed over.
+pub const MOST_ISSUERS: usize = 8;
+
 // The size of a reference record; where its lengths, its service and its domain stand, and how long the two fields are.
 pub const RECORD_SIZE: usize = 320;
 
@@ -114,13 +117,14 @@ pub struct Written {
     pub length: usize,
 }
 
-// A verdict's five numbers.
+// A verdict's six numbers.
 pub struct Verdict {
     pub answer: usize,
     pub reference: usize,
     pub presented: usize,
     pub start: usize,
     pub length: usize,
+    pub issuer: usize,
 }
 
 // What the record reader shows: the answer, the record's kind, and the lengths of its service and its domain.
@@ -147,8 +151,9 @@ pub struct Witness {
     pub subject: bool,
 }
 
-// A presented identifier that breaks the constraints: its index.
+// A string of constraints that is broken: its issuer's index, and the index of the first SAN entry that breaks it.
 pub struct Breach {
+    pub issuer: usize,
     pub presented: usize,
 }
 
@@ -156,7 +161,7 @@ pub struct Breach {
 pub enum Outcome {
     // Answers 7, 6, 3, 4 and 5: an input is too long or unreadable.
     Refused(usize),
-    // Answer 2: the first SRVName that breaks the constraints.
+    // Answer 2: the first breach of the constraints.
     Broken(Breach),
     // Answer 0.
     Matched(Witness),
