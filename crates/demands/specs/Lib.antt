@@ -1,3 +1,4 @@
+pub mod Issuers
 pub mod Statements
 pub mod Viewing
 pub mod Writing

@@ -6,11 +6,11 @@ use mathlib.Core.Path.{_≡_}
 use mathlib.Core.Logic.{_↔_, _≢_, _⊎_}
 use mathlib.Core.Bool.{cond}
 use mathlib.Core.Option.{some}
-use mathlib.Core.List.{List, [], _∷_, _++_}
+use mathlib.Core.List.{List, [], _∷_, _++_, map}
 use lib.ListN.{length, take, drop, getElem?}
 use lib.Dec.{T, eqb, ltb}
 use Rattle.rules.specs.Bytes.{part}
-use Rattle.rules.specs.Numbers.{sanLimit, subjectLimit, constraintsLimit, recordsLimit, dnsKind, srvKind, uriKind, cnKind}
+use Rattle.rules.specs.Numbers.{sanLimit, subjectLimit, constraintsLimit, recordsLimit, mostIssuers, dnsKind, srvKind, uriKind, cnKind}
 use Rattle.rules.specs.Numbers.{sanUnreadable, subjectUnreadable, constraintsUnreadable}
 use Rattle.rules.specs.Names.{dnsMatches, srvMatches, uriMatches}
 use Rattle.rules.specs.Records.{Reference, goodRecords, shown}
@@ -18,11 +18,12 @@ use Rattle.rules.specs.Der.{Member, Group, groups, lengthBytes, element, run, W
 use Rattle.rules.specs.San.{GeneralName, plain, other, srvOid, writeName}
 use Rattle.rules.specs.Subject.{Attribute, isCn, cnOid, cnTag, writeAttribute, writeSet}
 use Rattle.rules.specs.Constraints.{writeSubtree, writeSide}
-use Rattle.rules.specs.Seen.{Seen, listed, Input, sanInput, subjectInput, constraintsInput, Reads, Sees, seenRecords}
+use Rattle.rules.specs.Seen.{Seen, listed, Input, sanInput, subjectInput, constraintsInput, Reads, Sees, together, seenRecords}
 use Rattle.rules.specs.Matching.{Presented, presentedTo, matches, blocksCn, soleCn, breaks}
 use Rattle.rules.specs.Verdict.{numbers, past, outcomeOf}
 use Rattle.rules.specs.declared.Row.{Row}
 use Rattle.rules.specs.declared.Shown.{Shown}
+use Rattle.demands.specs.Issuers.{BreaksString, KeptOut}
 use Rattle.reading.specs.Calls.{Inputs, outcomeOn, verdictOn, witnessTextOn, witnessPartOn, witnessPlaceOn, listingOn, tableOn}
 
 -- ==== What is spoken of
@@ -121,13 +122,25 @@ stringOf (suc (suc n)) = constraintsString
 
 -- ---- the conditions of the answers
 
--- "an input is too long"
+-- 6/13: "Take 0 to 8 constraint strings, end to end in one slice beside a slice of their lengths": these strings are handed over
+pub record Strings (s : Inputs) (strings : List (List ℕ)) : Type 0 where
+  pub end-to-end : s .constraints ≡ run (λ string. string) strings
+  pub lengths-are : s .lengths ≡ some (map length strings)
+  pub at-most-eight : length strings ≤ mostIssuers
+
+-- an issuer's string of which this holds is among those handed over
+abbrev pub SomeString : Inputs → (List ℕ → Type 0) → Type 0
+SomeString s P =
+    (strings : List (List ℕ)) × Strings s strings × (k : ℕ) × (string : List ℕ) × (getElem? strings k ≡ some string) × P string
+
+-- "an input is too long"; 6/13: "a ninth, or lengths with another sum, is 7, and each keeps its own length limit", "an odd count is 7"
 abbrev pub TooLong : Inputs → Type 0
 TooLong s =
     (recordsLimit < length (s .references))
     ⊎ (sanLimit < length (s .san))
     ⊎ (subjectLimit < length (s .subject))
-    ⊎ (constraintsLimit < length (s .constraints))
+    ⊎ ((strings : List (List ℕ)) → ¬ Strings s strings)
+    ⊎ SomeString s (λ string. constraintsLimit < length string)
 
 -- "reference records unreadable"
 abbrev pub RecordsUnreadable : Inputs → Type 0
@@ -143,20 +156,31 @@ pub record Names : Type 0 where
   pub references : List Reference
   pub san : List GeneralName
   pub subject : List (Member Attribute)
-  pub constraints : List (Member GeneralName)
+  pub constraints : List (List (Member GeneralName))
+
+-- what is seen of each of these strings
+abbrev pub SeesEach : List (List ℕ) → List (Seen (Member GeneralName)) → Type 0
+SeesEach [] [] = Unit
+SeesEach [] (x ∷ xs) = ⊥
+SeesEach (string ∷ strings) [] = ⊥
+SeesEach (string ∷ strings) (x ∷ xs) = Sees constraintsInput string x × SeesEach strings xs
 
 -- no string is too long, all are readable, and these are their names
 pub record Read (s : Inputs) (l : Names) : Type 0 where
   pub references-are : seenRecords (s .references) ≡ listed (l .references)
   pub san-is : Sees sanInput (s .san) (listed (l .san))
   pub subject-is : Sees subjectInput (s .subject) (listed (l .subject))
-  pub constraints-are : Sees constraintsInput (s .constraints) (listed (l .constraints))
+  pub strings : List (List ℕ)
+  pub strings-are : Strings s strings
+  pub constraints-are : SeesEach strings (map listed (l .constraints))
 
--- the SAN's entry at i is an SRVName that breaks the constraints
-pub record BreaksAt (l : Names) (i : ℕ) : Type 0 where
+-- the SAN's entry at i breaks the constraints of the issuer k
+pub record BreaksAt (l : Names) (k i : ℕ) : Type 0 where
+  pub string : List (Member GeneralName)
+  pub string-at : getElem? (l .constraints) k ≡ some string
   pub entry : GeneralName
   pub entry-at : getElem? (l .san) i ≡ some entry
-  pub broken : T (breaks (l .constraints) entry)
+  pub broken : T (breaks string entry)
 
 -- the reference r matches the presented identifier at j: an entry of the SAN, or an attribute of the subject
 pub record MatchesAt (l : Names) (r : Reference) (j : ℕ) : Type 0 where
@@ -198,8 +222,8 @@ verdictAnswers s =
     ∷ when 6 (RecordsUnreadable s)
     ∷ when 3 (Unreadable sanInput (s .san))
     ∷ when 4 (Unreadable subjectInput (s .subject))
-    ∷ when 5 (Unreadable constraintsInput (s .constraints))
-    ∷ when 2 ((l : Names) × Read s l × (i : ℕ) × BreaksAt l i)
+    ∷ when 5 (SomeString s (Unreadable constraintsInput))
+    ∷ when 2 ((l : Names) × Read s l × (k : ℕ) × (i : ℕ) × BreaksAt l k i)
     ∷ when 0 ((l : Names) × Read s l × (i : ℕ) × (j : ℕ) × PairAt l i j)
     ∷ when 1 Unit
     ∷ []
@@ -222,12 +246,13 @@ recordAnswers bytes = when 7 (recordsLimit < length bytes) ∷ when 6 (¬ T (goo
 -- "A bad input gets exactly the refusal that document 01's order gives."
 pub record Verdicts (s : Inputs) : Type 0 where
   pub order : EachExactly [] (verdictAnswers s) (verdictOn s .answer)
-  -- the other four of 7, 6, 3, 4, 5 and 1: "zeros"
-  pub zeros : verdictOn s .answer ≢ 0 → verdictOn s .answer ≢ 2 → verdictOn s ≡ numbers (verdictOn s .answer) 0 0 0 0
-  -- and of 2: "presented index of the first that does; the rest zero"
+  -- the other five of 7, 6, 3, 4, 5 and 1: "zeros"
+  pub zeros : verdictOn s .answer ≢ 0 → verdictOn s .answer ≢ 2 → verdictOn s ≡ numbers (verdictOn s .answer) 0 0 0 0 0
+  -- and of 2: "presented index of the first that does; the rest zero". 6/13: "lowest issuer first, then lowest name"
   pub first-broken :
       (l : Names) → Read s l → verdictOn s .answer ≡ 2
-      → (i : ℕ) × (verdictOn s ≡ numbers 2 0 i 0 0) × BreaksAt l i × ((k : ℕ) → BreaksAt l k → i ≤ k)
+      → (k : ℕ) × (i : ℕ) × (verdictOn s ≡ numbers 2 0 i 0 0 k) × BreaksAt l k i
+      × ((k′ i′ : ℕ) → BreaksAt l k′ i′ → (k < k′) ⊎ ((k ≡ k′) × (i ≤ i′)))
 
 -- the listing of the string S, of which the number is `which`
 pub record Listings (which : ℕ) (S : CertificateString) : Type 0 where
@@ -281,7 +306,7 @@ First l i j = (i′ j′ : ℕ) → PairAt l i′ j′ → (i < i′) ⊎ ((i �
 -- what is reported of the reference r, which is the i-th, and the identifier p that it matches
 pub record Reported (s : Inputs) (i : ℕ) (r : Reference) (p : Presented) : Type 0 where
   -- "the witnessing pair, and its element's place"
-  pub numbers-are : verdictOn s ≡ numbers 0 i (p .row .group) (p .row .start) (p .row .length)
+  pub numbers-are : verdictOn s ≡ numbers 0 i (p .row .group) (p .row .start) (p .row .length) 0
   -- "The witness's text (the content of the dNSName or URI, the IA5String of the SRVName, the CN's value)": the text that matched
   pub text-is : p .text ≡ some (witnessTextOn s)
   -- "is handed back as a part of the certificate's own bytes": of the subject for a CN, else of the SAN
@@ -322,7 +347,7 @@ pub record Kinds (l : Names) (r : Reference) (j : ℕ) : Type 0 where
 pub record Demand2 : Type 0 where
   -- "a match exactly when some presented name matches some reference"
   pub match :
-      (s : Inputs) (l : Names) → Read s l → ((k : ℕ) → ¬ BreaksAt l k)
+      (s : Inputs) (l : Names) → Read s l → ((k i : ℕ) → ¬ BreaksAt l k i)
       → verdictOn s .answer ≡ 0 ↔ (i : ℕ) × (j : ℕ) × PairAt l i j
   -- "the pair reported is the first (lowest reference, then lowest name)"
   pub first :
@@ -344,8 +369,13 @@ pub record Demand2 : Type 0 where
       (l : Names) (r : Reference) (j : ℕ) (m : MatchesAt l r j) → r .kind ≡ cnKind
       → (a : Member Attribute) × (getElem? (l .subject) j ≡ some a) × (m .presented .row .group ≡ a .group)
       × (getElem? (subjectInput .grammar .rows (l .subject)) j ≡ some (m .presented .row))
-  -- "An SRVName that breaks the issuer's SRVName restrictions refuses the certificate even if another name would match."
-  pub broken : (s : Inputs) (l : Names) → Read s l → (k : ℕ) → BreaksAt l k → verdictOn s .answer ≡ 2
+  -- "An SRVName that breaks the issuer's SRVName restrictions refuses the certificate even if another name would match." 6/13: "Answer 2 in
+  -- demand 2 now covers both forms", and "All of them must hold."
+  pub broken : (s : Inputs) (l : Names) → Read s l → (k i : ℕ) → BreaksAt l k i → verdictOn s .answer ≡ 2
+  -- what it means that a name breaks an issuer's constraints
+  pub breaks : (string : List (Member GeneralName)) (name : GeneralName) → BreaksString string name
+  -- 6/13: "prove that a wildcard dNSName that breaks no string matches no domain in an excluded dNSName subtree"
+  pub kept-out : (strings : List (List (Member GeneralName))) (text subtree : List ℕ) → KeptOut strings text subtree
 
 -- ==== Demand 3: "One reading." "The DER grammar is written down as how names are put into bytes, with no reader in it": that a
 -- grammar G writes a list as these bytes is `Writes G list bytes`.
@@ -400,8 +430,10 @@ pub record OneReading (which : ℕ) (S : CertificateString) : Type 0 where
 pub record Demand3 : Type 0 where
   pub reading : (which : ℕ) → OneReading which (stringOf which)
   -- "Every verdict depends on our records and, of each certificate string, only on whether it is too long and its list, if any."
-  -- Stronger than the sentence: it says what the outcome is, of which numbers, text and place are told
+  -- Stronger than the sentence: it says what the outcome is, of which numbers, text and place are told. 6/13: "its reading holds for each
+  -- constraint string by itself, and its verdicts are worked out from all of them and their lengths"
   pub verdict :
-      (s : Inputs) (san : Seen GeneralName) (subject : Seen (Member Attribute)) (constraints : Seen (Member GeneralName))
-      → Sees sanInput (s .san) san → Sees subjectInput (s .subject) subject → Sees constraintsInput (s .constraints) constraints
-      → outcomeOn s ≡ outcomeOf (seenRecords (s .references)) san subject constraints
+      (s : Inputs) (strings : List (List ℕ)) (san : Seen GeneralName) (subject : Seen (Member Attribute)) (constraints : List (Seen (Member GeneralName)))
+      → Strings s strings → Sees sanInput (s .san) san → Sees subjectInput (s .subject) subject → SeesEach strings constraints
+      → outcomeOn s ≡ outcomeOf (seenRecords (s .references)) san subject (together constraints)
+  pub no-strings : (s : Inputs) → ((strings : List (List ℕ)) → ¬ Strings s strings) → verdictOn s ≡ numbers 7 0 0 0 0 0
