@@ -1,19 +1,22 @@
 -- The laws that the functions' proofs search: one for each return, and that a wildcard has the two bytes that are cut off.
 use Prim.Native.Nat.{ℕ, _+_, _-_, _<_, _≤_}
-use mathlib.Core.Path.{_≡_, refl, sym, _∙_}
+use mathlib.Core.Path.{_≡_, refl, sym, ap, _∙_}
 use mathlib.Core.List.{List, [], _∷_}
 use mathlib.Core.Bool.{Bool, true, false, not, and-true, and-false}
 use native.Mathlib.Omega.{arith}
-use lib.ListN.{length, getD, take, drop}
+use lib.ListN.{length, getD, take, drop, length-drop}
 use lib.Dec.{eqb}
-use borrow.Author.Tests.{eq-eqb, ne-eqb, le-leb, lt-leb, lt-ltb, le-ltb, not-true, not-false}
-use Rattle.octets.proofs.Cases.{eqb-swap}
+use borrow.Author.Tests.{eq-eqb, ne-eqb, eqb-true, eqb-false, le-leb, lt-leb, ltb-true, not-true, not-false}
+use Rattle.octets.proofs.Cases.{by-cases, and-left, and-right, fails, clash, eqb-swap}
+use Rattle.octets.proofs.Compare.{text-length}
+use Rattle.octets.proofs.Place.{passes-at, part-after, one-passes}
 use Rattle.octets.proofs.Parts.{rest-is}
 use Rattle.octets.proofs.Cut as cut
 use Rattle.names.proofs.Labels.{two-labels}
-use Rattle.rules.specs.Bytes.{any, begins, before}
+use Rattle.rules.specs.Bytes.{any, begins, before, after}
 use Rattle.rules.specs.Names.{is, star, dot, domain, sameText, dnsId, dnsMatches}
 use Rattle.dns.specs.Wildcard.{wildDomain, pastFirst}
+use Rattle.dns.proofs.Subtrees
 use Rattle.dns.proofs.Matching.{wild, wild-is, wild-id, plain-id, wild-matches, plain-matches}
 
 -- ---- begins_wild
@@ -53,17 +56,48 @@ module _ (t : List ℕ) where
 
 -- ---- past_first
 
-module _ (reference t : List ℕ) (first : ℕ) (is-first : first ≡ length (before (is dot) reference)) where
-  pub no-dot : first ≡ length reference → false ≡ pastFirst reference t
+module _ (text t : List ℕ) where
+  -- a text that is one label and then t has its first dot as many bytes before its end as t has, and one more
+  first-at : pastFirst text t ≡ true → (length t < length text) × (length text - length t - 1 ≡ length (before (is dot) text))
   unfolding pastFirst
-  no-dot e = rw (cut.any-is (is dot) reference, ← is-first, le-ltb first (length reference) (omega arith))
+  first-at e =
+      let some-dot = and-left (any (is dot) text) (sameText t (after (is dot) text)) e in
+      let same = and-right (any (is dot) text) (sameText t (after (is dot) text)) e in
+      let within : length (before (is dot) text) < length text = ltb-true _ _ (sym (cut.any-is (is dot) text) ∙ some-dot) in
+      let rest : length (after (is dot) text) ≡ length text - (length (before (is dot) text) + 1) =
+      ap length (sym (cut.drop-after (is dot) text)) ∙ length-drop (length (before (is dot) text) + 1) text in
+      let long = text-length t (after (is dot) text) same in
+      (omega arith, omega arith)
 
-  pub past-dot : first ≤ length reference → (first ≡ length reference → ⊥)
-      → (r : Bool) → r ≡ sameText t (take (length reference - (first + 1)) (drop (first + 1) reference)) → r ≡ pastFirst reference t
-  unfolding pastFirst
-  past-dot h n r e =
-      rw (cut.any-is (is dot) reference, ← is-first, lt-ltb first (length reference) (omega arith), ← cut.drop-after (is dot) reference, ← is-first)
-      (rw (rest-is reference (first + 1)) at e)
+  pub past-short : length text ≤ length t → false ≡ pastFirst text t
+  past-short h = fails (pastFirst text t) (λ e. omega (arith, first-at e .0))
+
+  module _ (h : length t < length text) where
+    abbrev at : ℕ
+    at = length text - length t - 1
+
+    pub past-no-dot : (getD text at 0 ≡ 0x2E → ⊥) → false ≡ pastFirst text t
+    past-no-dot n =
+        fails (pastFirst text t) (λ e. n (eqb-true (getD text at 0) dot (passes-at (is dot) text at (first-at e .1) (omega arith))))
+
+    module _ (same : Bool) (is-same : same ≡ sameText t (take (length text - (at + 1)) (drop (at + 1) text))) where
+      pub past-other : not same ≡ true → false ≡ pastFirst text t
+      unfolding pastFirst
+      past-other n =
+          fails (pastFirst text t) (λ e.
+          clash (rw (← part-after (is dot) text at (first-at e .1)) at (and-right (any (is dot) text) (sameText t (after (is dot) text)) e))
+          (sym (rw (rest-is text (at + 1)) at is-same) ∙ not-true same n))
+
+      -- the dot is the first
+      past-first-dot : not same ≡ false → at ≡ length (before (is dot) text) → true ≡ pastFirst text t
+      unfolding pastFirst
+      past-first-dot n k =
+          rw (one-passes (is dot) text at k (omega arith), ← part-after (is dot) text at k) (sym (sym (rw (rest-is text (at + 1)) at is-same) ∙ not-false same n))
+
+      pub past-is : not same ≡ false → (first : ℕ) → first ≡ length (before (is dot) text) → eqb first at ≡ pastFirst text t
+      past-is n first is-first =
+          by-cases (eqb first at) (λ e. e ∙ past-first-dot n (sym (eqb-true first at e) ∙ is-first))
+          (λ e. e ∙ fails (pastFirst text t) (λ p. eqb-false first at e (is-first ∙ sym (first-at p .1))))
 
 -- ---- dns_id
 
@@ -106,8 +140,10 @@ pub ruleset laws = (
   wild-domain-long,
   wild-domain-bad,
   wild-domain-is,
-  no-dot,
-  past-dot,
+  past-short,
+  past-no-dot,
+  past-other,
+  past-is,
   wild-long,
   id-wild,
   id-plain,
@@ -115,4 +151,11 @@ pub ruleset laws = (
   wild-same,
   plain-differs,
   plain-same,
+  Subtrees.restriction-empty,
+  Subtrees.restriction-domain,
+  Subtrees.within-every,
+  Subtrees.within-some,
+  Subtrees.reaches-inside,
+  Subtrees.reaches-wild,
+  Subtrees.reaches-plain,
 )

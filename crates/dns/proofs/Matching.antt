@@ -34,7 +34,7 @@ wild-is (x ∷ y ∷ t) e =
     rw (← eqb-true star x (both .0), ← eqb-true dot y (second .0))
 
 -- a text that begins with a star is no domain
-star-first : (t : List ℕ) → domain (star ∷ t) ≡ false
+pub star-first : (t : List ℕ) → domain (star ∷ t) ≡ false
 unfolding before outside rules.letterDigitHyphen rules.letter rules.digit
 star-first t = sym (run-stops (star ∷ t) 0 refl (omega arith) (λ e. omega arith))
 

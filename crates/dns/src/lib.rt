@@ -1,8 +1,9 @@
-// DNS-IDs: whether a text is one, and whether it matches the domain of a reference.
+// DNS-IDs: whether a text is one, whether it matches the domain of a reference, and the dNSName restrictions of name constraints.
 ghost use mathlib.Core.Path.{_≡_};
+ghost use mathlib.Core.Bool.{true};
 ghost use mathlib.Core.List.{[], _∷_};
 ghost use Rattle.rules.specs.Bytes.{begins};
-ghost use Rattle.rules.specs.Names.{star, dot, dnsId, dnsMatches};
+ghost use Rattle.rules.specs.Names.{star, dot, dnsId, dnsMatches, dnsRestriction, dnsWithin, dnsReaches};
 ghost use Rattle.dns.specs.Wildcard.{wildDomain, pastFirst};
 
 // Whether s begins with "*.".
@@ -33,16 +34,25 @@ fn wild_domain(t: &[u8]) -> bool
     octets::has(t, 0x2E)
 }
 
-// Whether the reference's labels past its first are those of t.
-fn past_first(reference: &[u8], t: &[u8]) -> bool
-    ensures { λ r. ⌜ r ≡ pastFirst (now (reference .entry)) (now (t .entry)) ⌝ }
+// Whether a text is one label and then t: as many bytes at its end as t has are compared, up to the first that differs, and the dot
+// before them is its first.
+fn past_first(text: &[u8], t: &[u8]) -> bool
+    ensures { λ r. ⌜ r ≡ pastFirst (now (text .entry)) (now (t .entry)) ⌝ }
 {
-    let first = octets::find(reference, 0x2E);
-    if first == reference.len() {
+    if text.len() <= t.len() {
         return false;
     }
-    let past = first + 1;
-    octets::same_text(t, &reference[past..])
+    let at = text.len() - t.len() - 1;
+    if text[at] != 0x2E {
+        return false;
+    }
+    let past = at + 1;
+    let same = octets::same_text(t, &text[past..]);
+    if !same {
+        return false;
+    }
+    let first = octets::find(text, 0x2E);
+    first == at
 }
 
 // "DNS-ID: a dNSName that is a domain, or `*.` and a domain (at most 253 bytes in all)."
@@ -75,4 +85,41 @@ pub fn dns_matches(reference: &[u8], text: &[u8]) -> bool
         return false;
     }
     names::domain(text)
+}
+
+// "an empty text contains every name; any other text must be a domain, else 5"
+pub fn dns_restriction(s: &[u8]) -> bool
+    ensures { λ r. ⌜ r ≡ dnsRestriction (now (s .entry)) ⌝ }
+{
+    if s.len() == 0 {
+        return true;
+    }
+    names::domain(s)
+}
+
+// Whether a name lies in a dNSName subtree: "zero or more labels added on the left".
+pub fn dns_within(subtree: &[u8], name: &[u8]) -> bool
+    ensures { λ r. ⌜ r ≡ dnsWithin (now (subtree .entry)) (now (name .entry)) ⌝ }
+{
+    if subtree.len() == 0 {
+        return true;
+    }
+    names::domain_within(subtree, name)
+}
+
+// Whether a DNS-ID breaks an excluded dNSName subtree: it lies there, or it is a wildcard and the subtree is "one label and
+// then the text after `*.`".
+pub fn dns_reaches(subtree: &[u8], name: &[u8]) -> bool
+    requires { ⌜ dnsId (now name) ≡ true ⌝ }
+    ensures { λ r. ⌜ r ≡ dnsReaches (now (subtree .entry)) (now (name .entry)) ⌝ }
+{
+    let inside = dns_within(subtree, name);
+    if inside {
+        return true;
+    }
+    let wild = begins_wild(name);
+    if wild {
+        return past_first(subtree, &name[2..]);
+    }
+    false
 }

@@ -15,6 +15,7 @@ use Rattle.rules.specs.Bytes.{some?, all, before}
 use Rattle.rules.specs.Names.{letter, digit, letterDigitHyphen, ldh, service, domain, schemeByte, scheme}
 use Rattle.names.specs.Label.{outside, bounded}
 use Rattle.names.proofs.Runs
+use Rattle.names.proofs.Within
 
 -- ---- run_length
 
@@ -194,4 +195,8 @@ pub ruleset laws = (
   scheme-bad,
   scheme-next,
   scheme-end,
+  Within.within-short,
+  Within.within-equal,
+  Within.within-no-dot,
+  Within.within-last,
 )

@@ -1,4 +1,5 @@
 pub mod Labels
 pub mod Runs
 pub use Rattle.rules.proofs.Free
+mod Within
 mod Laws

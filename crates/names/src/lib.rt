@@ -111,3 +111,22 @@ pub fn scheme(s: &[u8]) -> bool
     }
     true
 }
+
+// "the subtree's labels are the last labels of its domain": as many bytes at the end are the same, and a dot stands
+// before them.
+pub fn domain_within(subtree: &[u8], name: &[u8]) -> bool
+    ensures { λ r. ⌜ r ≡ rules.domainWithin (now (subtree .entry)) (now (name .entry)) ⌝ }
+{
+    if name.len() < subtree.len() {
+        return false;
+    }
+    if name.len() == subtree.len() {
+        return octets::same_text(subtree, name);
+    }
+    let at = name.len() - subtree.len() - 1;
+    if name[at] != 0x2E {
+        return false;
+    }
+    let end = octets::from(name, at + 1);
+    octets::same_text(subtree, end)
+}

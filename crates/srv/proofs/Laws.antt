@@ -3,7 +3,6 @@ use lib.Seq.{length-take-le}
 use Rattle.octets.proofs.Parts.{within-long}
 use Rattle.srv.proofs.Prefixed
 use Rattle.srv.proofs.Match
-use Rattle.srv.proofs.Within
 use Rattle.srv.proofs.Subtree
 
 pub ruleset laws = (
@@ -29,17 +28,14 @@ pub ruleset laws = (
   Match.parts-other-domain,
   Match.parts-no-service,
   Match.parts-same,
-  Within.within-short,
-  Within.within-equal,
-  Within.within-no-dot,
-  Within.within-last,
+  Subtree.id-dot,
+  Subtree.id-first,
+  Subtree.id-free,
   Subtree.subtree-domain,
-  Subtree.subtree-other-service,
   Subtree.subtree-service,
   Subtree.subtree-both,
-  Subtree.name-domain,
-  Subtree.name-no-dot,
-  Subtree.given-free,
+  Subtree.subtree-other-service,
+  Subtree.subtree-other-domain,
   Subtree.service-none,
   Subtree.service-short,
   Subtree.service-differs,

@@ -5,7 +5,7 @@ ghost use mathlib.Core.List.{[], _∷_};
 ghost use Prim.Native.Nat.{_≤_};
 ghost use lib.ListN.{length};
 ghost use Rattle.rules.specs.Bytes.{any, before, begins};
-ghost use Rattle.rules.specs.Names.{dot, is, underscore, sameText, serviceOf, domainOf, srvId, srvMatches, domainWithin, inSubtree};
+ghost use Rattle.rules.specs.Names.{dot, is, underscore, sameText, serviceOf, srvId, srvMatches, inSubtree};
 ghost use Rattle.rules.specs.Names as rules;
 ghost use Rattle.srv.specs.Parts.{srvParts, partsMatch};
 
@@ -108,38 +108,6 @@ pub fn srv_matches(service: &[u8], domain: &[u8], text: &[u8]) -> bool
     false
 }
 
-// "the subtree's labels are the last labels of its domain": as many bytes at the end are the same, and a dot stands
-// before them.
-pub fn domain_within(subtree: &[u8], name: &[u8]) -> bool
-    ensures { λ r. ⌜ r ≡ domainWithin (now (subtree .entry)) (now (name .entry)) ⌝ }
-{
-    if name.len() < subtree.len() {
-        return false;
-    }
-    if name.len() == subtree.len() {
-        return octets::same_text(subtree, name);
-    }
-    let at = name.len() - subtree.len() - 1;
-    if name[at] != 0x2E {
-        return false;
-    }
-    let end = octets::from(name, at + 1);
-    octets::same_text(subtree, end)
-}
-
-// Whether the domain that an SRVName gives lies in the domain of a subtree.
-fn domain_in(domain: &[u8], name: &[u8]) -> bool
-    ensures { λ r. ⌜ r ≡ domainWithin (now (domain .entry)) (domainOf (now (name .entry))) ⌝ }
-{
-    let n = octets::find(name, 0x2E);
-    if n == name.len() {
-        let none = octets::from(name, n);
-        return domain_within(domain, none);
-    }
-    let end = octets::from(name, n + 1);
-    domain_within(domain, end)
-}
-
 // Whether a service without a dot is the one that an SRVName gives.
 fn service_is(service: &[u8], name: &[u8]) -> bool
     requires { ⌜ any (is dot) (now service) ≡ false ⌝ }
@@ -164,23 +132,29 @@ fn service_is(service: &[u8], name: &[u8]) -> bool
 }
 
 // "It lies in a subtree if the service is equal, without case, where one is given, and the subtree's labels are the last
-// labels of its domain where a domain is given."
-pub fn in_subtree(subtree: &[u8], name: &[u8]) -> bool
+// labels of its domain where a domain is given." The name is an SRV-ID, and its first dot stands at `first`: a subtree with its service
+// has its own first dot there, or ends there. The domain is compared first, as it differs more often.
+pub fn in_subtree(subtree: &[u8], name: &[u8], first: usize) -> bool
+    requires { ⌜ srvId (now name) ≡ true ⌝ }
+    requires { ⌜ (first ≡ length (before (is dot) (now name))) × (first ≤ length (now name)) ⌝ }
     ensures { λ r. ⌜ r ≡ inSubtree (now (subtree .entry)) (now (name .entry)) ⌝ }
 {
+    let domain = octets::from(name, first + 1);
     let underscore = underscored(subtree);
-    if underscore {
-        let rest = octets::from(subtree, 1);
-        let n = octets::find(rest, 0x2E);
-        let same = service_is(&rest[..n], name);
-        if same {
-            if n == rest.len() {
-                return true;
-            }
-            let end = octets::from(rest, n + 1);
-            return domain_in(end, name);
-        }
+    if !underscore {
+        return names::domain_within(subtree, domain);
+    }
+    let service = &name[1..first];
+    if subtree.len() <= first {
+        return service_is(service, subtree);
+    }
+    if subtree[first] != 0x2E {
         return false;
     }
-    domain_in(subtree, name)
+    let end = octets::from(subtree, first + 1);
+    let within = names::domain_within(end, domain);
+    if !within {
+        return false;
+    }
+    service_is(service, subtree)
 }
