@@ -1,7 +1,7 @@
 -- What the element reader returns, by its own tests.
 use Prim.Native.Nat.{ℕ, suc, _+_, _-_, _*_, _%_, _≤_, _<_}
 use mathlib.Core.Path.{_≡_, refl, sym, ap, _∙_}
-use mathlib.Core.Bool.{Bool, true, false, cond, _&&_}
+use mathlib.Core.Bool.{Bool, true, false, cond, _&&_, true≢false}
 use mathlib.Core.Logic.{_⊎_, inl, inr}
 use mathlib.Core.List.{List, [], _∷_}
 use native.Mathlib.Omega.{arith}
@@ -9,11 +9,13 @@ use native.Mathlib.Numerals.{add-one, add-two, add-three, add-four}
 use lib.ListN.{length, getD, take, drop, length-drop}
 use lib.Seq.{slice, slice-cons, length-slice, length-take-le}
 use lib.Dec.{ltb, leb, eqb}
-use borrow.Author.Tests.{lt-ltb, le-ltb, le-leb, lt-leb, eq-eqb, ne-eqb}
+use borrow.Author.Tests.{lt-ltb, le-ltb, le-leb, lt-leb, leb-true, leb-false, eq-eqb, ne-eqb}
+use Rattle.octets.proofs.Cases.{by-cases}
 use denote.Enum.Declared
 use types.Run
 use Rattle.reading.specs.Reader.{Front, got, refused, truncated, badLength, long1, long2, readLength, Raw, raw, contentAfter, readElement}
 use Rattle.der.specs.Places.{placeElement, elementAt, placedAt, tagFits, taggedAt, valueAt, found?}
+use Rattle.der.specs.Runs.{startOf, endOf}
 use Rattle.der.specs.declared.Element.{Element}
 use Rattle.der.specs.declared.Element.the-variants.{Found, Truncated, BadLength, BadTag}
 use Rattle.der.proofs.Element as E
@@ -164,3 +166,38 @@ module _ (s : List ℕ) (at end : ℕ) (e : Element) (e-is : e ≡ elementAt s a
   pub value-good : (t b n : ℕ) → e ≡ Found t b n → (t % 32 ≡ 31 → ⊥) → Found t b n ≡ valueAt s at end
   unfolding valueAt tagFits
   value-good t b n f q = rw (← e-is, f, ne-eqb (t % 32) 31 q)
+
+-- ---- an element that is there
+
+module _ (s : List ℕ) (at end : ℕ) (h : at + 2 ≤ end) (fits : end ≤ length s) (there : found? (elementAt s at end) ≡ true) where
+  -- in short form
+  module _ (x : ℕ) (x-is : x ≡ getD s (at + 1) 0) (short : x < 128) where
+    short-found : elementAt s at end ≡ Found (getD s at 0) (at + 2) (at + 2 + x)
+    short-found =
+        let at-is = element-short s end fits at (omega arith) (omega arith) x x-is short in
+        by-cases (leb x (end - (at + 2)))
+        (λ e. sym (at-is _ (placed-found s end fits (getD s at 0) (at + 2) x h (leb-true x (end - (at + 2)) e))))
+        (λ e.
+        let none = at-is _ (placed-long s end fits (getD s at 0) (at + 2) x h (leb-false x (end - (at + 2)) e)) in
+        absurd (true≢false (sym there ∙ ap found? (sym none))))
+
+    pub short-end : at + 2 + x ≡ endOf (elementAt s at end)
+    unfolding endOf
+    short-end = rw short-found
+
+    pub short-start : at + 2 ≡ startOf (elementAt s at end)
+    unfolding startOf
+    short-start = rw short-found
+
+  module _ (e : Element) (e-is : e ≡ elementAt s at end) where
+    -- in any form
+    pub any-end : (t b n : ℕ) → e ≡ Found t b n → n ≡ endOf (elementAt s at end)
+    unfolding endOf
+    any-end t b n f = rw (← e-is, f)
+
+    pub any-start : (t b n : ℕ) → e ≡ Found t b n → b ≡ startOf (elementAt s at end)
+    unfolding startOf
+    any-start t b n f = rw (← e-is, f)
+
+    pub not-missing : {A : Type 0} {x y : A} → found? e ≡ false → x ≡ y
+    not-missing f = absurd (true≢false (sym there ∙ ap found? (sym e-is) ∙ f))

@@ -1,5 +1,5 @@
 -- What each function of the crate returns, by its own tests.
-use Rattle.der.proofs.Elements.{not-found, placed-long, placed-found, element-none, element-short, element-other, one-none, one-low, one-is, two-none, two-low, two-is, tagged-none, tagged-same, tagged-other, value-refused, value-bad, value-good}
+use Rattle.der.proofs.Elements.{not-found, placed-long, placed-found, element-none, element-short, element-other, one-none, one-low, one-is, two-none, two-low, two-is, tagged-none, tagged-same, tagged-other, value-refused, value-bad, value-good, short-end, short-start, any-end, any-start, not-missing}
 
 pub ruleset laws = (
   not-found,
@@ -20,4 +20,9 @@ pub ruleset laws = (
   value-refused,
   value-bad,
   value-good,
+  short-end,
+  short-start,
+  any-end,
+  any-start,
+  not-missing,
 )

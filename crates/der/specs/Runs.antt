@@ -191,6 +191,13 @@ startOf Truncated = 0
 startOf BadLength = 0
 startOf BadTag = 0
 
+-- where an element ends
+unfoldable pub endOf : Element → ℕ
+endOf (Found t b n) = n
+endOf Truncated = 0
+endOf BadLength = 0
+endOf BadTag = 0
+
 unfoldable pub contentStart : List ℕ → ℕ
 contentStart s = startOf (elementAt s 0 (length s))
 

@@ -1,9 +1,11 @@
 // DER elements and the names that they hold, read from a part of a slice: `at` is where the part starts, `end` where it ends.
-ghost use Prim.Native.Nat.{_≤_};
+ghost use Prim.Native.Nat.{_+_, _≤_};
 ghost use mathlib.Core.Path.{_≡_};
+ghost use mathlib.Core.Bool.{true};
 ghost use lib.ListN.{length};
 use octets::wide;
-ghost use Rattle.der.specs.Places.{elementAt, placedAt, taggedAt, valueAt};
+ghost use Rattle.der.specs.Places.{elementAt, placedAt, taggedAt, valueAt, found?};
+ghost use Rattle.der.specs.Runs.{startOf, endOf};
 
 // What stands at the front of a part: an element, or why none is read.
 pub enum Element {
@@ -109,4 +111,51 @@ pub fn value(s: &[u8], at: usize, end: usize) -> Element
         start: start,
         next: next,
     }
+}
+
+// Where an element ends that is known to be there, as in a string that has been validated. A length in short form, which is the usual
+// one, says it at once.
+pub fn element_end(s: &[u8], at: usize, end: usize) -> usize
+    requires { ⌜ at + 2 ≤ end ⌝ }
+    requires { ⌜ end ≤ length (now s) ⌝ }
+    requires { ⌜ found? (elementAt (now s) at end) ≡ true ⌝ }
+    ensures { λ r. ⌜ r ≡ endOf (elementAt (now (s .entry)) at end) ⌝ }
+{
+    let first = wide(s[at + 1]);
+    if first < 128 {
+        return at + 2 + first;
+    }
+    let e = read_element(s, at, end);
+    let Element::Found {
+        tag: _,
+        start: _,
+        next,
+    } = e
+    else {
+        return end;
+    };
+    next
+}
+
+// Where the content of such an element starts.
+pub fn content_start(s: &[u8], at: usize, end: usize) -> usize
+    requires { ⌜ at + 2 ≤ end ⌝ }
+    requires { ⌜ end ≤ length (now s) ⌝ }
+    requires { ⌜ found? (elementAt (now s) at end) ≡ true ⌝ }
+    ensures { λ r. ⌜ r ≡ startOf (elementAt (now (s .entry)) at end) ⌝ }
+{
+    let first = wide(s[at + 1]);
+    if first < 128 {
+        return at + 2;
+    }
+    let e = read_element(s, at, end);
+    let Element::Found {
+        tag: _,
+        start,
+        next: _,
+    } = e
+    else {
+        return end;
+    };
+    start
 }
