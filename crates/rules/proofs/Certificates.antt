@@ -1,12 +1,12 @@
 -- The certificates, rows and listings of the desk examples: what documents 01 and 02 write out, and the smallest ones that tell
 -- their other sentences apart.
 use Prim.Native.Nat.{ℕ, _+_}
-use mathlib.Core.List.{List, [], _∷_, _++_}
+use mathlib.Core.List.{List, [], _∷_, _++_, map}
 use lib.ListN.{replicate}
 use Rattle.rules.specs.Der
 use Rattle.rules.specs.San
 use Rattle.rules.specs.Subject
-use Rattle.rules.specs.Seen.{tooLong, unreadable, listed, seenRecords}
+use Rattle.rules.specs.Seen.{tooLong, unreadable, listed, together, seenRecords}
 use Rattle.rules.specs.Verdict.{numbers, outcomeOf}
 use Rattle.rules.specs.declared.Outcome.{Outcome}
 use Rattle.rules.specs.declared.Row.{Row}
@@ -52,9 +52,9 @@ side number t = subtree number (srvName t)
 
 -- ---- certificates
 
--- a certificate with constraints. "Where none is named, the subject is J"
-abbrev constrained : List ℕ → List San.GeneralName → List ℕ → List (Der.Member San.GeneralName) → List ℕ → Verdict → Certificate
-constrained san names constraints subtrees references numbers = record {
+-- a certificate with the constraints of its issuers. "Where none is named, the subject is J"
+abbrev pub chained : List ℕ → List San.GeneralName → List (List ℕ) → List (List (Der.Member San.GeneralName)) → List ℕ → Verdict → Certificate
+chained san names constraints subtrees references numbers = record {
   san = san;
   sanNames = names;
   subject = j;
@@ -65,9 +65,13 @@ constrained san names constraints subtrees references numbers = record {
   numbers = numbers;
 }
 
+-- of one issuer
+abbrev constrained : List ℕ → List San.GeneralName → List ℕ → List (Der.Member San.GeneralName) → List ℕ → Verdict → Certificate
+constrained san names constraints subtrees references numbers = chained san names (constraints ∷ []) (subtrees ∷ []) references numbers
+
 -- ".. and constraints are absent"
 abbrev bySan : List ℕ → List San.GeneralName → List ℕ → Verdict → Certificate
-bySan san names references numbers = constrained san names [] [] references numbers
+bySan san names references numbers = chained san names [] [] references numbers
 
 -- no SAN: the subject decides
 abbrev bySubject : List ℕ → List (Der.Member Subject.Attribute) → List ℕ → Verdict → Certificate
@@ -84,15 +88,15 @@ bySubject subject names references numbers = record {
 
 -- how its verdict ends
 abbrev pub outcome : Certificate → Outcome
-outcome c = outcomeOf (seenRecords (c .references)) (listed (c .sanNames)) (listed (c .subjectNames)) (listed (c .constraintsNames))
+outcome c = outcomeOf (seenRecords (c .references)) (listed (c .sanNames)) (listed (c .subjectNames)) (together (map listed (c .constraintsNames)))
 
 -- "No SAN, J, CN `a.b`: 0 0 0 4 12."
 abbrev pub cnMatches : Certificate
-cnMatches = bySubject j jNames cn (numbers 0 0 0 4 12)
+cnMatches = bySubject j jNames cn (numbers 0 0 0 4 12 0)
 
 -- "With SAN `30 02 82 00`: answer 1."
 abbrev pub cnBlocked : Certificate
-cnBlocked = bySan (hex "30 02 82 00") (San.plain 0x82 [] ∷ []) cn (numbers 1 0 0 0 0)
+cnBlocked = bySan (hex "30 02 82 00") (San.plain 0x82 [] ∷ []) cn (numbers 1 0 0 0 0 0)
 
 -- "SAN `30 14 A0 12 06 08 2B 06 01 05 05 07 08 07 A0 06 16 04 5F 6D 2E 62`": the SRVName `_m.b`
 abbrev oneLabelSan : List ℕ
@@ -109,7 +113,7 @@ abbrev srvNames : List San.GeneralName
 srvNames = srvName (text "_m.b.c") ∷ []
 
 abbrev pub srvMatches : Certificate
-srvMatches = bySan srvSan srvNames srv (numbers 0 0 0 2 22)
+srvMatches = bySan srvSan srvNames srv (numbers 0 0 0 2 22 0)
 
 -- constraints that permit one service, of one byte
 abbrev pub permits : ℕ → List ℕ
@@ -120,23 +124,23 @@ permitted b = side 0 (text "_" ++ b ∷ []) ∷ []
 
 -- "With constraints `30 16 A0 14 30 12 A0 10 06 08 2B 06 01 05 05 07 08 07 A0 04 16 02 5F 6D`: the same."
 abbrev pub srvPermitted : Certificate
-srvPermitted = constrained srvSan srvNames (permits 0x6D) (permitted 0x6D) srv (numbers 0 0 0 2 22)
+srvPermitted = constrained srvSan srvNames (permits 0x6D) (permitted 0x6D) srv (numbers 0 0 0 2 22 0)
 
 -- "With the last byte 6E: answer 2."
 abbrev pub srvBroken : Certificate
-srvBroken = constrained srvSan srvNames (permits 0x6E) (permitted 0x6E) srv (numbers 2 0 0 0 0)
+srvBroken = constrained srvSan srvNames (permits 0x6E) (permitted 0x6E) srv (numbers 2 0 0 0 0 0)
 
 -- "Letting a matching DNS-ID excuse a broken SRVName": `a.b` matches, and the SRVName behind it breaks the constraints
 abbrev pub notExcused : Certificate
 notExcused =
     constrained (hex "30 1B 82 03 61 2E 62 A0 14 06 08 2B 06 01 05 05 07 08 07 A0 08 16 06 5F 6D 2E 62 2E 63")
-    (San.plain 0x82 (text "a.b") ∷ srvNames) (permits 0x6E) (permitted 0x6E) dns (numbers 2 0 1 0 0)
+    (San.plain 0x82 (text "a.b") ∷ srvNames) (permits 0x6E) (permitted 0x6E) dns (numbers 2 0 1 0 0 0)
 
 -- "lie in no excluded SRVName subtree": `_m` is excluded
 abbrev pub srvExcluded : Certificate
 srvExcluded =
     constrained srvSan srvNames (hex "30 16 A1 14 30 12 A0 10 06 08 2B 06 01 05 05 07 08 07 A0 04 16 02 5F 6D")
-    (side 1 (text "_m") ∷ []) srv (numbers 2 0 0 0 0)
+    (side 1 (text "_m") ∷ []) srv (numbers 2 0 0 0 0 0)
 
 -- `_n` is excluded, and nothing is permitted
 abbrev excludesOther : List ℕ
@@ -147,57 +151,57 @@ excludesOtherNames = side 1 (text "_n") ∷ []
 
 -- "if any permitted SRVName subtree exists, lie in one": none does, so `_m.b.c` need not
 abbrev pub srvNotExcluded : Certificate
-srvNotExcluded = constrained srvSan srvNames excludesOther excludesOtherNames srv (numbers 0 0 0 2 22)
+srvNotExcluded = constrained srvSan srvNames excludesOther excludesOtherNames srv (numbers 0 0 0 2 22 0)
 
 -- "if the constraints hold any SRVName subtree, each presented SRVName must be an SRV-ID": `m` is none
 abbrev pub noSrvId : Certificate
 noSrvId =
     constrained (hex "30 11 A0 0F 06 08 2B 06 01 05 05 07 08 07 A0 03 16 01 6D") (srvName (text "m") ∷ []) excludesOther
-    excludesOtherNames srv (numbers 2 0 0 0 0)
+    excludesOtherNames srv (numbers 2 0 0 0 0 0)
 
 -- "Other forms in the constraints are read and passed over": the dNSName `b` is permitted, and `m` breaks nothing
 abbrev pub otherForm : Certificate
 otherForm =
     constrained (hex "30 11 A0 0F 06 08 2B 06 01 05 05 07 08 07 A0 03 16 01 6D") (srvName (text "m") ∷ [])
-    (hex "30 07 A0 05 30 03 82 01 62") (subtree 0 (San.plain 0x82 (text "b")) ∷ []) srv (numbers 1 0 0 0 0)
+    (hex "30 07 A0 05 30 03 82 01 62") (subtree 0 (San.plain 0x82 (text "b")) ∷ []) srv (numbers 1 0 0 0 0 0)
 
 -- "URI-ID: ..": the content `a://u@b.c:1/`
 abbrev pub uriMatched : Certificate
 uriMatched =
-    bySan (hex "30 0E 86 0C 61 3A 2F 2F 75 40 62 2E 63 3A 31 2F") (San.plain 0x86 (text "a://u@b.c:1/") ∷ []) uri (numbers 0 0 0 2 14)
+    bySan (hex "30 0E 86 0C 61 3A 2F 2F 75 40 62 2E 63 3A 31 2F") (San.plain 0x86 (text "a://u@b.c:1/") ∷ []) uri (numbers 0 0 0 2 14 0)
 
 -- "A reference matches only its own kind": the text `a.b`, as a URI
 abbrev pub otherKind : Certificate
-otherKind = bySan (hex "30 05 86 03 61 2E 62") (San.plain 0x86 (text "a.b") ∷ []) dns (numbers 1 0 0 0 0)
+otherKind = bySan (hex "30 05 86 03 61 2E 62") (San.plain 0x86 (text "a.b") ∷ []) dns (numbers 1 0 0 0 0 0)
 
 -- "Stopping at the first name instead of the lowest reference": the second name matches the first reference
 abbrev pub lowestReference : Certificate
 lowestReference =
     bySan (hex "30 0A 82 03 63 2E 64 82 03 61 2E 62") (San.plain 0x82 (text "c.d") ∷ San.plain 0x82 (text "a.b") ∷ [])
-    (dns ++ recordBytes 1 [] 63 (text "c.d") 250) (numbers 0 0 1 7 5)
+    (dns ++ recordBytes 1 [] 63 (text "c.d") 250) (numbers 0 0 1 7 5 0)
 
 -- "the witnessing pair": only the second reference matches
 abbrev pub secondReference : Certificate
-secondReference = bySan s sNames (recordBytes 1 [] 63 (text "c.d") 250 ++ dns) (numbers 0 1 0 2 5)
+secondReference = bySan s sNames (recordBytes 1 [] 63 (text "c.d") 250 ++ dns) (numbers 0 1 0 2 5 0)
 
 -- "each filled with zeros": the record's last byte is 1
 abbrev pub badFill : Certificate
-badFill = bySan s sNames (recordBytes 1 [] 63 (text "a.b") 249 ++ (1 ∷ [])) (numbers 6 0 0 0 0)
+badFill = bySan s sNames (recordBytes 1 [] 63 (text "a.b") 249 ++ (1 ∷ [])) (numbers 6 0 0 0 0 0)
 
 -- ---- the CN
 
 -- "CN references count only if the SAN has no entry tagged 82 or 86 and no SRVName, readable as a name or not."
 abbrev pub uriBlocks : Certificate
-uriBlocks = bySan (hex "30 03 86 01 61") (San.plain 0x86 (text "a") ∷ []) cn (numbers 1 0 0 0 0)
+uriBlocks = bySan (hex "30 03 86 01 61") (San.plain 0x86 (text "a") ∷ []) cn (numbers 1 0 0 0 0 0)
 
 abbrev pub srvBlocks : Certificate
-srvBlocks = bySan (hex "30 11 A0 0F 06 08 2B 06 01 05 05 07 08 07 A0 03 16 01 6D") (srvName (text "m") ∷ []) cn (numbers 1 0 0 0 0)
+srvBlocks = bySan (hex "30 11 A0 0F 06 08 2B 06 01 05 05 07 08 07 A0 03 16 01 6D") (srvName (text "m") ∷ []) cn (numbers 1 0 0 0 0 0)
 
 -- "Email or address entries don't block the CN", nor does another otherName
 abbrev pub othersPass : Certificate
 othersPass =
     bySan (hex "30 13 81 01 61 A0 08 06 01 2A A0 03 16 01 61 87 04 01 02 03 04")
-    (San.plain 0x81 (text "a") ∷ San.other (hex "2A") 0x16 (text "a") ∷ San.plain 0x87 (hex "01 02 03 04") ∷ []) cn (numbers 0 0 0 4 12)
+    (San.plain 0x81 (text "a") ∷ San.other (hex "2A") 0x16 (text "a") ∷ San.plain 0x87 (hex "01 02 03 04") ∷ []) cn (numbers 0 0 0 4 12 0)
 
 -- "tag 0C, 13 or 16": J with another tag
 abbrev pub cnTagged : ℕ → Verdict → Certificate
@@ -208,31 +212,31 @@ cnTagged tag numbers =
 abbrev pub twoCns : ℕ → Certificate
 twoCns tag =
     bySubject (hex "30 1A 31 18 30 0A 06 03 55 04 03 0C 03 61 2E 62 30 0A 06 03 55 04 03" ++ tag ∷ hex "03 61 2E 62")
-    (attribute 0 Subject.cnOid 0x0C (text "a.b") ∷ attribute 0 Subject.cnOid tag (text "a.b") ∷ []) cn (numbers 1 0 0 0 0)
+    (attribute 0 Subject.cnOid 0x0C (text "a.b") ∷ attribute 0 Subject.cnOid tag (text "a.b") ∷ []) cn (numbers 1 0 0 0 0 0)
 
 -- an attribute of another type beside it does not count
 abbrev pub cnAndOther : Certificate
 cnAndOther =
     bySubject (hex "30 18 31 16 30 08 06 03 55 04 0A 0C 01 78 30 0A 06 03 55 04 03 0C 03 61 2E 62")
-    (attribute 0 (hex "55 04 0A") 0x0C (text "x") ∷ attribute 0 Subject.cnOid 0x0C (text "a.b") ∷ []) cn (numbers 0 0 0 14 12)
+    (attribute 0 (hex "55 04 0A") 0x0C (text "x") ∷ attribute 0 Subject.cnOid 0x0C (text "a.b") ∷ []) cn (numbers 0 0 0 14 12 0)
 
 -- "the RDNs of the subject for a CN": two sets with one CN each, and the second is `a.b`
 abbrev pub secondSet : Certificate
 secondSet =
     bySubject (hex "30 1C 31 0C 30 0A 06 03 55 04 03 0C 03 63 2E 64 31 0C 30 0A 06 03 55 04 03 0C 03 61 2E 62")
-    (attribute 0 Subject.cnOid 0x0C (text "c.d") ∷ attribute 1 Subject.cnOid 0x0C (text "a.b") ∷ []) cn (numbers 0 0 1 18 12)
+    (attribute 0 Subject.cnOid 0x0C (text "c.d") ∷ attribute 1 Subject.cnOid 0x0C (text "a.b") ∷ []) cn (numbers 0 0 1 18 12 0)
 
 -- "Cutting a CN at a zero byte": the value `a.b`, a zero and `c` is no name
 abbrev pub cnNotCut : Certificate
 cnNotCut =
     bySubject (hex "30 10 31 0E 30 0C 06 03 55 04 03 0C 05 61 2E 62 00 63") (attribute 0 Subject.cnOid 0x0C (hex "61 2E 62 00 63") ∷ [])
-    cn (numbers 1 0 0 0 0)
+    cn (numbers 1 0 0 0 0 0)
 
 -- ---- 1/13: one-label names
 
 -- "a wildcard needs at least two labels after it, in DNS-ID": `*.b` and `*.b.c`
 abbrev pub wildcardOver1 : List ℕ → Certificate
-wildcardOver1 references = bySan (hex "30 05 82 03 2A 2E 62") (San.plain 0x82 (text "*.b") ∷ []) references (numbers 1 0 0 0 0)
+wildcardOver1 references = bySan (hex "30 05 82 03 2A 2E 62") (San.plain 0x82 (text "*.b") ∷ []) references (numbers 1 0 0 0 0 0)
 
 abbrev pub wildcardOver2 : List ℕ → Verdict → Certificate
 wildcardOver2 references numbers =
@@ -242,27 +246,27 @@ wildcardOver2 references numbers =
 abbrev pub wildcardOverExample : Certificate
 wildcardOverExample =
     bySan (hex "30 0B 82 09 2A 2E 65 78 61 6D 70 6C 65") (San.plain 0x82 (text "*.example") ∷ [])
-    (recordBytes 1 [] 63 (text "branch.example") 239) (numbers 1 0 0 0 0)
+    (recordBytes 1 [] 63 (text "branch.example") 239) (numbers 1 0 0 0 0 0)
 
 -- "and CN-ID"
 abbrev pub cnOver1 : Certificate
 cnOver1 =
-    bySubject (hex "30 0E 31 0C 30 0A 06 03 55 04 03 0C 03 2A 2E 62") (attribute 0 Subject.cnOid 0x0C (text "*.b") ∷ []) cn (numbers 1 0 0 0 0)
+    bySubject (hex "30 0E 31 0C 30 0A 06 03 55 04 03 0C 03 2A 2E 62") (attribute 0 Subject.cnOid 0x0C (text "*.b") ∷ []) cn (numbers 1 0 0 0 0 0)
 
 abbrev pub cnOver2 : Certificate
 cnOver2 =
     bySubject (hex "30 10 31 0E 30 0C 06 03 55 04 03 0C 05 2A 2E 62 2E 63") (attribute 0 Subject.cnOid 0x0C (text "*.b.c") ∷ [])
-    (recordBytes 4 [] 63 (text "a.b.c") 248) (numbers 0 0 0 4 14)
+    (recordBytes 4 [] 63 (text "a.b.c") 248) (numbers 0 0 0 4 14 0)
 
 -- "a reference record whose domain has one label is refused with 6": m, `b`
 abbrev pub oneLabelRecord : Certificate
-oneLabelRecord = bySan oneLabelSan oneLabelNames (recordBytes 2 (text "m") 62 (text "b") 252) (numbers 6 0 0 0 0)
+oneLabelRecord = bySan oneLabelSan oneLabelNames (recordBytes 2 (text "m") 62 (text "b") 252) (numbers 6 0 0 0 0 0)
 
 -- "Restrictions and presented names without a wildcard may keep one label": `_m.b` lies in the permitted `b`, and does not match
 abbrev pub oneLabelKept : Certificate
 oneLabelKept =
     constrained oneLabelSan oneLabelNames (hex "30 15 A0 13 30 11 A0 0F 06 08 2B 06 01 05 05 07 08 07 A0 03 16 01 62")
-    (side 0 (text "b") ∷ []) dns (numbers 1 0 0 0 0)
+    (side 0 (text "b") ∷ []) dns (numbers 1 0 0 0 0 0)
 
 -- ---- 2/13: addresses
 
@@ -275,11 +279,11 @@ addressName references numbers =
 abbrev pub digitsFirst : Certificate
 digitsFirst =
     bySan (hex "30 0B 82 09 34 2E 65 78 61 6D 70 6C 65") (San.plain 0x82 (text "4.example") ∷ [])
-    (recordBytes 1 [] 63 (text "4.example") 244) (numbers 0 0 0 2 11)
+    (recordBytes 1 [] 63 (text "4.example") 244) (numbers 0 0 0 2 11 0)
 
 abbrev pub digitThenLetter : Certificate
 digitThenLetter =
-    bySan (hex "30 06 82 04 61 2E 37 62") (San.plain 0x82 (text "a.7b") ∷ []) (recordBytes 1 [] 63 (text "a.7b") 249) (numbers 0 0 0 2 6)
+    bySan (hex "30 06 82 04 61 2E 37 62") (San.plain 0x82 (text "a.7b") ∷ []) (recordBytes 1 [] 63 (text "a.7b") 249) (numbers 0 0 0 2 6 0)
 
 -- "SRVNames (no SRV-ID, so 2 where SRVName subtrees exist)": `_m.10.4.0.7`, without constraints and where `_m` is permitted
 abbrev pub addressSrv : List ℕ → List (Der.Member San.GeneralName) → Verdict → Certificate
@@ -291,23 +295,23 @@ addressSrv constraints subtrees numbers =
 abbrev pub digitsService : Certificate
 digitsService =
     constrained (hex "30 16 A0 14 06 08 2B 06 01 05 05 07 08 07 A0 08 16 06 5F 37 2E 61 2E 62") (srvName (text "_7.a.b") ∷ [])
-    (permits 0x37) (permitted 0x37) (recordBytes 2 (text "7") 62 (text "a.b") 250) (numbers 0 0 0 2 22)
+    (permits 0x37) (permitted 0x37) (recordBytes 2 (text "7") 62 (text "a.b") 250) (numbers 0 0 0 2 22 0)
 
 -- a host: `x://10.4.0.7` is no URI-ID and blocks the CN; in `x://a.b:7` the port is no label
 abbrev pub addressHost : List ℕ → Certificate
 addressHost references =
-    bySan (hex "30 0E 86 0C 78 3A 2F 2F 31 30 2E 34 2E 30 2E 37") (San.plain 0x86 (text "x://10.4.0.7") ∷ []) references (numbers 1 0 0 0 0)
+    bySan (hex "30 0E 86 0C 78 3A 2F 2F 31 30 2E 34 2E 30 2E 37") (San.plain 0x86 (text "x://10.4.0.7") ∷ []) references (numbers 1 0 0 0 0 0)
 
 abbrev pub digitsPort : Certificate
 digitsPort =
     bySan (hex "30 0B 86 09 78 3A 2F 2F 61 2E 62 3A 37") (San.plain 0x86 (text "x://a.b:7") ∷ [])
-    (recordBytes 3 (text "x") 62 (text "a.b") 250) (numbers 0 0 0 2 11)
+    (recordBytes 3 (text "x") 62 (text "a.b") 250) (numbers 0 0 0 2 11 0)
 
--- "Other forms in the constraints are read and passed over": the dNSName `10.4.0.7` is permitted, and `a.b` matches
+-- "Other forms in the constraints are read and passed over": the URI `10.4.0.7` is permitted, and `a.b` matches
 abbrev pub addressPassedOver : Certificate
 addressPassedOver =
-    constrained s sNames (hex "30 0E A0 0C 30 0A 82 08 31 30 2E 34 2E 30 2E 37") (subtree 0 (San.plain 0x82 (text "10.4.0.7")) ∷ []) dns
-    (numbers 0 0 0 2 5)
+    constrained s sNames (hex "30 0E A0 0C 30 0A 86 08 31 30 2E 34 2E 30 2E 37") (subtree 0 (San.plain 0x86 (text "10.4.0.7")) ∷ []) dns
+    (numbers 0 0 0 2 5 0)
 
 -- ---- label lengths
 

@@ -282,9 +282,9 @@ verdicts =
     ∷ verdict Certificates.uriBlocks
     ∷ verdict Certificates.srvBlocks
     ∷ verdict Certificates.othersPass
-    ∷ verdict (Certificates.cnTagged 0x13 (numbers 0 0 0 4 12))
-    ∷ verdict (Certificates.cnTagged 0x16 (numbers 0 0 0 4 12))
-    ∷ verdict (Certificates.cnTagged 0x14 (numbers 1 0 0 0 0))
+    ∷ verdict (Certificates.cnTagged 0x13 (numbers 0 0 0 4 12 0))
+    ∷ verdict (Certificates.cnTagged 0x16 (numbers 0 0 0 4 12 0))
+    ∷ verdict (Certificates.cnTagged 0x14 (numbers 1 0 0 0 0 0))
     ∷ verdict (Certificates.twoCns 0x13)
     ∷ verdict (Certificates.twoCns 0x14)
     ∷ verdict Certificates.cnAndOther
@@ -293,26 +293,26 @@ verdicts =
     ∷ verdict (Certificates.wildcardOver1 Certificates.dns)
     ∷ verdict (Certificates.wildcardOver1 Certificates.cn)
     ∷ verdict Certificates.wildcardOverExample
-    ∷ verdict (Certificates.wildcardOver2 (recordBytes 1 [] 63 (text "a.b.c") 248) (numbers 0 0 0 2 7))
-    ∷ verdict (Certificates.wildcardOver2 (recordBytes 1 [] 63 (text "b.c") 250) (numbers 1 0 0 0 0))
+    ∷ verdict (Certificates.wildcardOver2 (recordBytes 1 [] 63 (text "a.b.c") 248) (numbers 0 0 0 2 7 0))
+    ∷ verdict (Certificates.wildcardOver2 (recordBytes 1 [] 63 (text "b.c") 250) (numbers 1 0 0 0 0 0))
     ∷ verdict Certificates.cnOver1
     ∷ verdict Certificates.cnOver2
     ∷ verdict Certificates.oneLabelRecord
     ∷ verdict Certificates.oneLabelKept
-    ∷ verdict (Certificates.addressName (recordBytes 1 [] 63 (text "10.4.0.7") 245) (numbers 6 0 0 0 0))
-    ∷ verdict (Certificates.addressName Certificates.dns (numbers 1 0 0 0 0))
-    ∷ verdict (Certificates.addressName Certificates.cn (numbers 1 0 0 0 0))
+    ∷ verdict (Certificates.addressName (recordBytes 1 [] 63 (text "10.4.0.7") 245) (numbers 6 0 0 0 0 0))
+    ∷ verdict (Certificates.addressName Certificates.dns (numbers 1 0 0 0 0 0))
+    ∷ verdict (Certificates.addressName Certificates.cn (numbers 1 0 0 0 0 0))
     ∷ verdict Certificates.digitsFirst
     ∷ verdict Certificates.digitThenLetter
-    ∷ verdict (Certificates.addressSrv [] [] (numbers 1 0 0 0 0))
-    ∷ verdict (Certificates.addressSrv (Certificates.permits 0x6D) (Certificates.permitted 0x6D) (numbers 2 0 0 0 0))
+    ∷ verdict (Certificates.addressSrv [] [] (numbers 1 0 0 0 0 0))
+    ∷ verdict (Certificates.addressSrv (Certificates.permits 0x6D) (Certificates.permitted 0x6D) (numbers 2 0 0 0 0 0))
     ∷ verdict Certificates.digitsService
     ∷ verdict (Certificates.addressHost (recordBytes 3 (text "x") 62 (text "a.b") 250))
     ∷ verdict (Certificates.addressHost Certificates.cn)
     ∷ verdict Certificates.digitsPort
     ∷ verdict Certificates.addressPassedOver
-    ∷ verdict (Certificates.longLabel 63 188 (numbers 0 0 0 2 67))
-    ∷ verdict (Certificates.longLabel 64 187 (numbers 6 0 0 0 0))
+    ∷ verdict (Certificates.longLabel 63 188 (numbers 0 0 0 2 67 0))
+    ∷ verdict (Certificates.longLabel 64 187 (numbers 6 0 0 0 0 0))
     ∷ []
 
 -- "Order for a verdict: 7 for any of the four inputs, then 6, 3, 4, 5"
@@ -355,7 +355,7 @@ table =
     domains ++ (services ++ (uris ++ (records ++ (generalNames ++ (groups ++ (absences ++ (verdicts ++ (refusals ++ (witnesses ++ listings)))))))))
 
 pub desk : All table
-unfolding part same begins before after ascii upTo Names.letter Names.digit Names.letterDigitHyphen Names.lower Names.sameText Names.ldh Names.label Names.longer Names.labels Names.lastOf Names.domain Names.twoLabels Names.sameLabels Names.sameDomain Names.wildcard Names.dnsId Names.leftmostMatches Names.labelsMatch Names.dnsMatches Names.service Names.serviceOf Names.domainOf Names.srvId Names.srvMatches Names.restriction Names.givenService Names.givenDomain Names.lastLabels Names.domainWithin Names.inSubtree Names.schemeByte Names.scheme Names.schemeOf Names.authorityEnd Names.authorityOf Names.hostAndPort Names.hostOf Names.portOf Names.uriId Names.uriMatches Records.referenceOf Records.filled Records.goodService Records.goodReference Records.goodRecord Records.split Records.recordsOf Records.goodRecords Records.referencesOf Der.lengthBytes Der.element Der.header Der.run Der.push Der.groups Der.rowsOfMembers Der.rowsOfGroups San.tagOf San.contentOf San.writeName San.sealed San.goodValue San.goodSrvName San.goodName San.nameKind San.rowsOfNames Subject.writeAttribute Subject.goodAttribute Subject.writeSet Subject.goodSet Subject.numbered Subject.isCn Subject.attributeKind Subject.attributeRow Seen.seenRecords Matching.taggedText Matching.srvText Matching.entryText Matching.soleCn Matching.cnText Matching.blocksCn Matching.presentedIn Matching.presentedTo Matching.textMatches Matching.matches Matching.firstPair Matching.srvSubtrees Matching.liesIn Matching.allowed Matching.breaks Matching.firstBroken Verdict.witnessOf Verdict.judged Verdict.outcomeOf Verdict.numbersOf Verdict.verdictOf Constraints.goodRestriction Constraints.goodSubtree Constraints.writeSubtree Constraints.writeSide Constraints.goodSide Constraints.subtreeRow Listing.listedOf Listing.tableAfter Records.shownAt Records.shown Verdict.witnessText Verdict.witnessPlace Verdict.witnessPart
+unfolding part same begins before after ascii upTo Names.letter Names.digit Names.letterDigitHyphen Names.lower Names.sameText Names.ldh Names.label Names.longer Names.labels Names.lastOf Names.domain Names.twoLabels Names.sameLabels Names.sameDomain Names.wildcard Names.dnsId Names.leftmostMatches Names.labelsMatch Names.dnsMatches Names.dnsRestriction Names.subtreeLabels Names.dnsWithin Names.oneLabelThen Names.dnsReaches Names.service Names.serviceOf Names.domainOf Names.srvId Names.srvMatches Names.restriction Names.givenService Names.givenDomain Names.lastLabels Names.domainWithin Names.inSubtree Names.schemeByte Names.scheme Names.schemeOf Names.authorityEnd Names.authorityOf Names.hostAndPort Names.hostOf Names.portOf Names.uriId Names.uriMatches Records.referenceOf Records.filled Records.goodService Records.goodReference Records.goodRecord Records.split Records.recordsOf Records.goodRecords Records.referencesOf Der.lengthBytes Der.element Der.header Der.run Der.push Der.groups Der.rowsOfMembers Der.rowsOfGroups San.tagOf San.contentOf San.writeName San.sealed San.goodValue San.goodSrvName San.goodName San.nameKind San.rowsOfNames Subject.writeAttribute Subject.goodAttribute Subject.writeSet Subject.goodSet Subject.numbered Subject.isCn Subject.attributeKind Subject.attributeRow Seen.together Seen.seenRecords Matching.taggedText Matching.srvText Matching.entryText Matching.soleCn Matching.cnText Matching.blocksCn Matching.presentedIn Matching.presentedTo Matching.textMatches Matching.matches Matching.firstPair Matching.subtreesOf Matching.allowed Matching.breaksAs Matching.breaks Matching.firstBroken Matching.firstBreach Verdict.witnessOf Verdict.judged Verdict.outcomeOf Verdict.numbersOf Verdict.verdictOf Constraints.goodRestriction Constraints.goodSubtree Constraints.writeSubtree Constraints.writeSide Constraints.goodSide Constraints.subtreeRow Listing.listedOf Listing.tableAfter Records.shownAt Records.shown Verdict.witnessText Verdict.witnessPlace Verdict.witnessPart
 desk = all-hold table tt
 
 -- ---- 3/13: the viewer
@@ -405,7 +405,7 @@ views =
     ∷ []
 
 pub viewer : All (openings ++ views)
-unfolding same upTo ascii begins before after Names.letter Names.digit Names.letterDigitHyphen Names.ldh Names.label Names.longer Names.labels Names.lastOf Names.domain Names.service Names.serviceOf Names.domainOf Names.srvId Names.restriction Der.lengthBytes Der.element Der.header Der.run Der.push Der.groups Der.rowsOfMembers Der.rowsOfGroups San.tagOf San.contentOf San.writeName San.sealed San.goodValue San.goodSrvName San.goodName San.nameKind San.rowsOfNames Subject.writeAttribute Subject.goodAttribute Subject.writeSet Subject.goodSet Subject.numbered Subject.isCn Subject.attributeKind Subject.attributeRow Constraints.goodRestriction Constraints.goodSubtree Constraints.writeSubtree Constraints.writeSide Constraints.goodSide Constraints.subtreeRow Viewer.rowFrom Viewer.rowOrEnd Viewer.viewOf Viewer.openingOf Viewer.nthAt Viewer.numbersAt Viewer.viewNumbers
+unfolding same upTo ascii begins before after Names.letter Names.digit Names.letterDigitHyphen Names.ldh Names.label Names.longer Names.labels Names.lastOf Names.domain Names.dnsRestriction Names.service Names.serviceOf Names.domainOf Names.srvId Names.restriction Der.lengthBytes Der.element Der.header Der.run Der.push Der.groups Der.rowsOfMembers Der.rowsOfGroups San.tagOf San.contentOf San.writeName San.sealed San.goodValue San.goodSrvName San.goodName San.nameKind San.rowsOfNames Subject.writeAttribute Subject.goodAttribute Subject.writeSet Subject.goodSet Subject.numbered Subject.isCn Subject.attributeKind Subject.attributeRow Constraints.goodRestriction Constraints.goodSubtree Constraints.writeSubtree Constraints.writeSide Constraints.goodSide Constraints.subtreeRow Viewer.rowFrom Viewer.rowOrEnd Viewer.viewOf Viewer.openingOf Viewer.nthAt Viewer.numbersAt Viewer.viewNumbers
 viewer = all-hold (openings ++ views) tt
 
 -- ---- "Longest inputs, in bytes: SAN 16,384; subject 4,096; constraints 16,384; references 5,120. One byte more is answer 7."

@@ -2,7 +2,7 @@
 use Prim.Native.Nat.{ℕ}
 use mathlib.Core.Path.{_≡_}
 use mathlib.Core.Bool.{Bool, false}
-use mathlib.Core.List.{List, [], _∷_, _++_}
+use mathlib.Core.List.{List, [], _∷_, _++_, map}
 use lib.ListN.{length, replicate}
 use lib.Dec.{T}
 use Rattle.rules.specs.Names.{restriction, srvId, inSubtree, dnsId, dnsMatches}
@@ -10,7 +10,7 @@ use Rattle.rules.specs.Records.{Reference}
 use Rattle.rules.specs.Der.{Member}
 use Rattle.rules.specs.San.{GeneralName}
 use Rattle.rules.specs.Subject.{Attribute}
-use Rattle.rules.specs.Seen.{Seen, listed, Input, sanInput, subjectInput, constraintsInput, Sees, seenRecords}
+use Rattle.rules.specs.Seen.{Seen, listed, Input, sanInput, subjectInput, constraintsInput, Sees, together, seenRecords}
 use Rattle.rules.specs.Verdict.{numbers, verdictOf}
 use Rattle.rules.specs.Listing.{listedOf, tableAfter}
 use Rattle.rules.specs.declared.Row.{Row}
@@ -21,14 +21,15 @@ use Rattle.rules.specs.declared.Verdict.{Verdict}
 abbrev pub row : ℕ → ℕ → ℕ → ℕ → Row
 row k s l g = record { kind = k; start = s; length = l; group = g }
 
--- a whole certificate: its strings, the lists that the grammar writes as them, our records, and the verdict's numbers
+-- a whole certificate: its strings, with the constraints of each issuer, the lists that the grammar writes as them, our records, and the
+-- verdict's numbers
 pub record Certificate : Type 0 where
   pub san : List ℕ
   pub sanNames : List GeneralName
   pub subject : List ℕ
   pub subjectNames : List (Member Attribute)
-  pub constraints : List ℕ
-  pub constraintsNames : List (Member GeneralName)
+  pub constraints : List (List ℕ)
+  pub constraintsNames : List (List (Member GeneralName))
   pub references : List ℕ
   pub numbers : Verdict
 
@@ -59,8 +60,8 @@ pub data Example : Type 0 where
   written : List ℕ → List ℕ → Example
   -- a verdict, through the grammar
   verdict : Certificate → Example
-  -- a refusal, by what is seen of the records and the three strings
-  refused : Seen Reference → Seen GeneralName → Seen (Member Attribute) → Seen (Member GeneralName) → ℕ → Example
+  -- a refusal, by what is seen of the records, the SAN, the subject and the constraints of all issuers
+  refused : Seen Reference → Seen GeneralName → Seen (Member Attribute) → Seen (List (Member GeneralName)) → ℕ → Example
   -- the rows of a string, through the grammar
   sanRows : Rows GeneralName → Example
   subjectRows : Rows (Member Attribute) → Example
@@ -72,6 +73,17 @@ pub data Example : Type 0 where
 abbrev pub HasRows : {Name : Type 0} → Input Name → Rows Name → Type 0
 HasRows I r = Sees I (r .bytes) (listed (r .names)) × (I .grammar .rows (r .names) ≡ r .rows)
 
+-- the grammar writes these lists as the constraints of the issuers, one each
+abbrev pub EachListed : List (List ℕ) → List (List (Member GeneralName)) → Type 0
+EachListed [] [] = Unit
+EachListed [] (l ∷ ls) = ⊥
+EachListed (b ∷ bs) [] = ⊥
+EachListed (b ∷ bs) (l ∷ ls) = Sees constraintsInput b (listed l) × EachListed bs ls
+
+-- the verdict on a certificate, by its lists
+abbrev pub verdictOn : Certificate → Verdict
+verdictOn c = verdictOf (seenRecords (c .references)) (listed (c .sanNames)) (listed (c .subjectNames)) (together (map listed (c .constraintsNames)))
+
 abbrev pub Holds : Example → Type 0
 Holds (subtree restricted name inside) = T (restriction restricted) × T (srvId name) × (inSubtree restricted name ≡ inside)
 Holds (dnsName presented reference matched) = dnsMatches reference presented ≡ matched
@@ -81,9 +93,9 @@ Holds (written bytes shown) = bytes ≡ shown
 Holds (verdict c) =
     Sees sanInput (c .san) (listed (c .sanNames))
     × Sees subjectInput (c .subject) (listed (c .subjectNames))
-    × Sees constraintsInput (c .constraints) (listed (c .constraintsNames))
-    × (verdictOf (seenRecords (c .references)) (listed (c .sanNames)) (listed (c .subjectNames)) (listed (c .constraintsNames)) ≡ c .numbers)
-Holds (refused references san subject constraints answer) = verdictOf references san subject constraints ≡ numbers answer 0 0 0 0
+    × EachListed (c .constraints) (c .constraintsNames)
+    × (verdictOn c ≡ c .numbers)
+Holds (refused references san subject constraints answer) = verdictOf references san subject constraints ≡ numbers answer 0 0 0 0 0
 Holds (sanRows r) = HasRows sanInput r
 Holds (subjectRows r) = HasRows subjectInput r
 Holds (constraintsRows r) = HasRows constraintsInput r

@@ -1,5 +1,5 @@
 -- The examples of document 01, about the definitions of specs/ themselves: `marked` is P1 to P16, `desk` the others;
--- `viewer`, `san-values` and `record-values` are those of requests 3/13 and 4/13.
+-- `viewer`, `san-values` and `record-values`, and `issuers` are those of requests 3/13, 4/13 and 6/13.
 pub mod Text
 pub mod Holds
 pub mod Test
@@ -7,6 +7,7 @@ pub mod Marked
 pub mod Certificates
 pub mod Desk
 pub mod Writers
+pub mod Issuers
 -- The names of document 01 as it writes them: parts joined to a text. `Joined` states them, the rest is their proof.
 pub mod Cases
 pub mod Cut

@@ -8,14 +8,16 @@ use lib.ListN.{length}
 use lib.Dec.{T, eqb, leb, eqb→eq, leb→le}
 use Rattle.rules.specs.Bytes.{some?, all, same}
 use Rattle.rules.specs.Names.{restriction, srvId, inSubtree, dnsId, dnsMatches}
-use Rattle.rules.specs.Seen.{Input, sanInput, subjectInput, constraintsInput, listed, Reads, Sees, seenRecords}
+use Rattle.rules.specs.Der.{Member}
+use Rattle.rules.specs.San.{GeneralName}
+use Rattle.rules.specs.Seen.{Input, sanInput, subjectInput, constraintsInput, listed, Reads, Sees}
 use Rattle.rules.specs.Verdict.{numbers, verdictOf}
 use Rattle.rules.specs.Listing.{listedOf, tableAfter}
 use Rattle.rules.specs.declared.Row.{Row}
 use Rattle.rules.specs.declared.Listed.{Listed}
 use Rattle.rules.specs.declared.Verdict.{Verdict}
 use Rattle.rules.proofs.Cases.{and-parts}
-use Rattle.rules.proofs.Holds.{Certificate, Rows, Listing, Example, subtree, dnsName, noDnsId, tested, written, verdict, refused, sanRows, subjectRows, constraintsRows, listing, HasRows, Holds, All}
+use Rattle.rules.proofs.Holds.{Certificate, Rows, Listing, Example, subtree, dnsName, noDnsId, tested, written, verdict, refused, sanRows, subjectRows, constraintsRows, listing, HasRows, EachListed, verdictOn, Holds, All}
 
 -- ---- equalities, tested
 
@@ -44,7 +46,8 @@ abbrev pub sameVerdict : Verdict → Verdict → Bool
 sameVerdict v w =
     eqb (v .answer) (w .answer)
     && (eqb (v .reference) (w .reference)
-    && (eqb (v .presented) (w .presented) && (eqb (v .start) (w .start) && eqb (v .length) (w .length))))
+    && (eqb (v .presented) (w .presented)
+    && (eqb (v .start) (w .start) && (eqb (v .length) (w .length) && eqb (v .issuer) (w .issuer)))))
 
 verdict-is : (v w : Verdict) → T (sameVerdict v w) → v ≡ w
 verdict-is v w h =
@@ -52,12 +55,14 @@ verdict-is v w h =
     let b = and-parts (eqb (v .reference) (w .reference)) _ (a .1) in
     let c = and-parts (eqb (v .presented) (w .presented)) _ (b .1) in
     let d = and-parts (eqb (v .start) (w .start)) _ (c .1) in
+    let e = and-parts (eqb (v .length) (w .length)) _ (d .1) in
     λ i. record {
       answer = eqb→eq (v .answer) (w .answer) (a .0) i;
       reference = eqb→eq (v .reference) (w .reference) (b .0) i;
       presented = eqb→eq (v .presented) (w .presented) (c .0) i;
       start = eqb→eq (v .start) (w .start) (d .0) i;
-      length = eqb→eq (v .length) (w .length) (d .1) i;
+      length = eqb→eq (v .length) (w .length) (e .0) i;
+      issuer = eqb→eq (v .issuer) (w .issuer) (e .1) i;
     }
 
 abbrev pub sameRow : Row → Row → Bool
@@ -132,16 +137,30 @@ module _ {Name : Type 0} (I : Input Name) (bytes : List ℕ) (list : List Name) 
       let p = and-parts (leb (length bytes) (I .limit)) _ h in
       (leb→le (length bytes) (I .limit) (p .0), reads (one-of (writes I bytes list) (absent I bytes list) (p .1)))
 
+-- and each of these as its own
+abbrev pub seenEach : List (List ℕ) → List (List (Member GeneralName)) → Bool
+seenEach [] [] = true
+seenEach [] (l ∷ ls) = false
+seenEach (b ∷ bs) [] = false
+seenEach (b ∷ bs) (l ∷ ls) = seenAs constraintsInput b l && seenEach bs ls
+
+sees-each : (bs : List (List ℕ)) (ls : List (List (Member GeneralName))) → T (seenEach bs ls) → EachListed bs ls
+sees-each [] [] h = tt
+sees-each [] (l ∷ ls) h = h
+sees-each (b ∷ bs) [] h = h
+sees-each (b ∷ bs) (l ∷ ls) h =
+    let p = and-parts (seenAs constraintsInput b l) (seenEach bs ls) h in
+    (sees constraintsInput b l (p .0), sees-each bs ls (p .1))
+
 -- ---- examples
 
 abbrev pub seen : Certificate → Bool
 seen c =
     seenAs sanInput (c .san) (c .sanNames)
-    && (seenAs subjectInput (c .subject) (c .subjectNames) && seenAs constraintsInput (c .constraints) (c .constraintsNames))
+    && (seenAs subjectInput (c .subject) (c .subjectNames) && seenEach (c .constraints) (c .constraintsNames))
 
 abbrev pub judgedRight : Certificate → Bool
-judgedRight c =
-    sameVerdict (verdictOf (seenRecords (c .references)) (listed (c .sanNames)) (listed (c .subjectNames)) (listed (c .constraintsNames))) (c .numbers)
+judgedRight c = sameVerdict (verdictOn c) (c .numbers)
 
 abbrev pub rowsRight : {Name : Type 0} → Input Name → Rows Name → Bool
 rowsRight I r = seenAs I (r .bytes) (r .names) && sameRows (I .grammar .rows (r .names)) (r .rows)
@@ -160,7 +179,7 @@ passes (tested test passed) = sameBool test passed
 passes (written bytes shown) = same bytes shown
 passes (verdict c) = seen c && judgedRight c
 passes (refused references san subject constraints answer) =
-    sameVerdict (verdictOf references san subject constraints) (numbers answer 0 0 0 0)
+    sameVerdict (verdictOf references san subject constraints) (numbers answer 0 0 0 0 0)
 passes (sanRows r) = rowsRight sanInput r
 passes (subjectRows r) = rowsRight subjectInput r
 passes (constraintsRows r) = rowsRight constraintsInput r
@@ -181,7 +200,7 @@ holds (noDnsId presented) h = bool-is (dnsId presented) false h
 holds (tested test passed) h = bool-is test passed h
 holds (written bytes shown) h = bytes-are bytes shown h
 holds (refused references san subject constraints answer) h =
-    verdict-is (verdictOf references san subject constraints) (numbers answer 0 0 0 0) h
+    verdict-is (verdictOf references san subject constraints) (numbers answer 0 0 0 0 0) h
 holds (sanRows r) h = has-rows sanInput r h
 holds (subjectRows r) h = has-rows subjectInput r h
 holds (constraintsRows r) h = has-rows constraintsInput r h
@@ -194,8 +213,8 @@ holds (verdict c) h =
     let r = and-parts (seenAs subjectInput (c .subject) (c .subjectNames)) _ (q .1) in (
       sees sanInput (c .san) (c .sanNames) (q .0),
       sees subjectInput (c .subject) (c .subjectNames) (r .0),
-      sees constraintsInput (c .constraints) (c .constraintsNames) (r .1),
-      verdict-is _ (c .numbers) (p .1),
+      sees-each (c .constraints) (c .constraintsNames) (r .1),
+      verdict-is (verdictOn c) (c .numbers) (p .1),
     )
 
 pub all-hold : (table : List Example) → T (all passes table) → All table
