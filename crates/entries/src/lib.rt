@@ -4,6 +4,7 @@ use der::Element;
 use der::read_element;
 use der::tagged;
 use der::value;
+use dns::dns_restriction;
 use octets::same_bytes;
 use octets::wide;
 use rules::SRV_OID;
@@ -315,6 +316,22 @@ fn good_other_subtree(s: &[u8], start: usize, end: usize) -> bool
     true
 }
 
+// The GeneralName of a subtree. Of a dNSName: "an empty text contains every name; any other text must be a domain, else 5". A domain is
+// below 128 in every byte.
+fn good_subtree_name(s: &[u8], tag: u8, start: usize, end: usize) -> bool
+    requires { ⌜ start ≤ end ⌝ }
+    requires { ⌜ end ≤ length (now s) ⌝ }
+    ensures { λ r. ⌜ r ≡ goodSubtreeNameAt (now (s .entry)) tag start end ⌝ }
+{
+    if tag == 0xA0 {
+        return good_other_subtree(s, start, end);
+    }
+    if tag == 0x82 {
+        return dns_restriction(&s[start..end]);
+    }
+    good_name(s, tag, start, end)
+}
+
 // Whether a subtree is readable.
 pub fn good_subtree(s: &[u8], tag: u8, start: usize, end: usize) -> bool
     requires { ⌜ start ≤ end ⌝ }
@@ -336,8 +353,5 @@ pub fn good_subtree(s: &[u8], tag: u8, start: usize, end: usize) -> bool
     if next != end {
         return false;
     }
-    if form == 0xA0 {
-        return good_other_subtree(s, from, end);
-    }
-    good_name(s, form, from, end)
+    good_subtree_name(s, form, from, end)
 }
