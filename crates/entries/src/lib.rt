@@ -1,6 +1,7 @@
 // One name of a certificate string: a GeneralName, an attribute, a subtree. `start` and `end` are where its element's content
 // starts and ends, and `tag` is that element's tag.
 use der::Element;
+use der::content_start;
 use der::read_element;
 use der::tagged;
 use der::value;
@@ -9,11 +10,14 @@ use octets::same_bytes;
 use octets::wide;
 use rules::SRV_OID;
 use srv::restriction;
-ghost use Prim.Native.Nat.{_≤_};
+ghost use Prim.Native.Nat.{_+_, _≤_};
 ghost use mathlib.Core.Path.{_≡_};
-ghost use lib.ListN.{length};
+ghost use mathlib.Core.Bool.{true};
+ghost use lib.ListN.{length, getD};
 ghost use Rattle.rules.specs.San.{textTag, sealedTag};
-ghost use Rattle.entries.specs.Entries.{srvOidAt, cnOidAt, otherAt, nameAt, kindBy, attributeAt, subtreeAt, asciiAt, goodSrvAt, goodNameAt, goodSubtreeNameAt, goodSubtreeAt};
+ghost use Rattle.rules.specs.Matching.{srvForm, dnsForm};
+ghost use Rattle.reading.specs.Reader.{isSome};
+ghost use Rattle.entries.specs.Entries.{srvOidAt, cnOidAt, otherAt, nameAt, kindBy, attributeAt, subtreeAt, asciiAt, goodSrvAt, goodNameAt, goodSubtreeNameAt, goodSubtreeAt, formOf, wholeAt, textPlace};
 
 // "The CN's OID content is 55 04 03."
 const CN_OID: [u8; 3] = [0x55, 0x04, 0x03];
@@ -354,4 +358,78 @@ pub fn good_subtree(s: &[u8], tag: u8, start: usize, end: usize) -> bool
         return false;
     }
     good_subtree_name(s, form, from, end)
+}
+
+// Where the text of an SRVName starts, of an otherName whose length is not in short form.
+fn other_text(s: &[u8], at: usize, end: usize) -> usize
+    requires { ⌜ at + 2 ≤ end ⌝ }
+    requires { ⌜ end ≤ length (now s) ⌝ }
+    requires { ⌜ isSome (wholeAt (now s) at end) ≡ true ⌝ }
+    requires { ⌜ getD (now s) at 0 ≡ 0xA0 ⌝ }
+    ensures { λ r. ⌜ r ≡ textPlace srvForm (now (s .entry)) at end ⌝ }
+{
+    let start = content_start(s, at, end);
+    let n = other_name(s, start, end);
+    let Name::Is { kind, tag: _, text } = n else {
+        return end + 1;
+    };
+    if kind == 9 {
+        return text;
+    }
+    end + 1
+}
+
+// Where the text of an SRVName starts, of a GeneralName that has been validated. Where its length is in short form, so are all lengths
+// in it, and each part has its own place: A0, the length, 06, 8, the OID, A0, the length, the tag, the length, the text.
+fn srv_text(s: &[u8], at: usize, end: usize) -> usize
+    requires { ⌜ at + 2 ≤ end ⌝ }
+    requires { ⌜ end ≤ length (now s) ⌝ }
+    requires { ⌜ isSome (wholeAt (now s) at end) ≡ true ⌝ }
+    ensures { λ r. ⌜ r ≡ textPlace srvForm (now (s .entry)) at end ⌝ }
+{
+    if s[at] != 0xA0 {
+        return end + 1;
+    }
+    if end - at < 16 {
+        return end + 1;
+    }
+    let first = wide(s[at + 1]);
+    if 128 <= first {
+        return other_text(s, at, end);
+    }
+    if s[at + 3] != 8 {
+        return end + 1;
+    }
+    let srv = is_srv_oid(s, at + 4, at + 12);
+    if srv {
+        return at + 16;
+    }
+    end + 1
+}
+
+// Where the text of a dNSName starts, of a GeneralName that has been validated.
+fn dns_text(s: &[u8], at: usize, end: usize) -> usize
+    requires { ⌜ at + 2 ≤ end ⌝ }
+    requires { ⌜ end ≤ length (now s) ⌝ }
+    requires { ⌜ isSome (wholeAt (now s) at end) ≡ true ⌝ }
+    ensures { λ r. ⌜ r ≡ textPlace dnsForm (now (s .entry)) at end ⌝ }
+{
+    if s[at] != 0x82 {
+        return end + 1;
+    }
+    content_start(s, at, end)
+}
+
+// Where the text of a name of one form starts (kind 9 an SRVName, else a dNSName), of the GeneralName that stands from `at` to `end` and
+// has been validated; past the end where it is of another form. That is told by its tag, and nothing is judged again.
+pub fn name_text(s: &[u8], at: usize, end: usize, kind: usize) -> usize
+    requires { ⌜ at + 2 ≤ end ⌝ }
+    requires { ⌜ end ≤ length (now s) ⌝ }
+    requires { ⌜ isSome (wholeAt (now s) at end) ≡ true ⌝ }
+    ensures { λ r. ⌜ r ≡ textPlace (formOf kind) (now (s .entry)) at end ⌝ }
+{
+    if kind == 9 {
+        return srv_text(s, at, end);
+    }
+    dns_text(s, at, end)
 }
