@@ -1,11 +1,15 @@
 pub mod Order
 pub mod Looked
+pub mod Strings
 pub mod Endings
 pub mod FirstPair
 pub mod Judged
 pub mod Verdicts
 pub mod Listings
+pub mod Texts
 pub mod Presented
+pub mod Breaking
+pub mod KeptOut
 pub mod Places
 pub mod Witness
 pub mod Records

@@ -1,29 +1,28 @@
 -- The presented identifiers of each kind: which names they are, their rows, and what matches.
-use Prim.Native.Nat.{ℕ, zero, suc, _+_}
+use Prim.Native.Nat.{ℕ, zero, suc}
 use mathlib.Core.Path.{_≡_, refl, sym, ap, subst, _∙_}
 use mathlib.Core.Logic.{_↔_, _≢_, Iff·trans}
 use mathlib.Core.Bool.{Bool, true, false, true≢false}
-use mathlib.Core.Option.{Option, some, Option·map, Option·some-injective}
-use mathlib.Core.List.{List, [], _∷_, map, map-append}
+use mathlib.Core.Option.{Option, some, Option·some-injective}
+use mathlib.Core.List.{List, [], _∷_}
 use native.Mathlib.Omega.{arith}
 use lib.ListN.{length, getElem?}
-use lib.Dec.{T, eqb, eqb→eq}
-use borrow.Author.Tests.{ne-eqb, eq-eqb, eqb-true}
-use Rattle.rules.specs.Bytes.{any, same}
+use lib.Dec.{T}
+use borrow.Author.Tests.{ne-eqb}
+use Rattle.rules.specs.Bytes.{any}
 use Rattle.rules.specs.Numbers.{dnsKind, srvKind, uriKind, cnKind}
 use Rattle.rules.specs.Names.{dnsMatches, srvMatches, uriMatches}
 use Rattle.rules.specs.Records.{Reference}
-use Rattle.rules.specs.Der.{Member, Group, groups, header, run, rowsOfMembers, rowsOfGroups}
-use Rattle.rules.specs.San.{GeneralName, plain, other, srvOid, sanGrammar, rowsOfNames, writeName}
-use Rattle.rules.specs.Subject.{Attribute, isCn, cnTag, subjectGrammar, writeAttribute, attributeRow}
+use Rattle.rules.specs.Der.{Member}
+use Rattle.rules.specs.San.{GeneralName, plain, other, srvOid, sanGrammar}
+use Rattle.rules.specs.Subject.{Attribute, isCn, cnTag, subjectGrammar}
 use Rattle.rules.specs.Matching.{Presented, presentedIn, presentedTo, matches, if-some, textMatches, taggedText, srvText, entryText, cnText, soleCn, blocksCn}
 use Rattle.rules.specs.declared.Row.{Row}
-use Rattle.reading.specs.Strings.{flat}
-use Rattle.reading.specs.Groups.{members, flat-groups}
-use Rattle.reading.specs.Answers.{no-some, and-parts}
+use Rattle.reading.specs.Answers.{no-some}
 use Rattle.reading.specs.OneReading.{san-reading, subject-reading}
 use Rattle.demands.specs.Statements.{Names, MatchesAt, Kinds}
-use Rattle.demands.proofs.Places.{same-refl, same-eq, san-row, subject-row}
+use Rattle.demands.proofs.Places.{san-row, subject-row}
+use Rattle.demands.proofs.Texts.{tagged-is, srv-is, some-passes}
 
 -- ---- names beside their rows
 
@@ -61,28 +60,21 @@ module _ {A : Type 0} (text : A → Option (List ℕ)) where
 module _ (f : List ℕ → Bool) where
   -- a test of the text that a name presents is a test of its content, where the name is of that form
   tagged-text : (tag : ℕ) (n : GeneralName) → T (if-some (taggedText tag n) f) ↔ (c : List ℕ) × (n ≡ plain tag c) × T (f c)
-  unfolding taggedText
-  tagged-text tag n = (there n, λ h. rw (h .1) (simp (eq-eqb tag tag refl) (h .2)))
-    where
-      there : (n : GeneralName) → T (if-some (taggedText tag n) f) → (c : List ℕ) × (n ≡ plain tag c) × T (f c)
-      there (other o t c) h = absurd h
-      there (plain t c) h = go (eqb t tag) refl
-        where
-          go : (b : Bool) → eqb t tag ≡ b → (d : List ℕ) × (plain t c ≡ plain tag d) × T (f d)
-          go true e = (c, ap (λ x. plain x c) (eqb-true t tag e), rw e at h)
-          go false e = absurd (rw e at h)
+  tagged-text tag n = (
+    λ h.
+        let s = some-passes (taggedText tag n) f .0 h in
+        (s .0, tagged-is tag n (s .0) .0 (s .1), s .2),
+    λ h. some-passes (taggedText tag n) f .1 (h .0, tagged-is tag n (h .0) .1 (h .1), h .2),
+  )
 
   srv-text : (n : GeneralName) → T (if-some (srvText n) f) ↔ (tag : ℕ) × (c : List ℕ) × (n ≡ other srvOid tag c) × T (f c)
-  unfolding srvText
-  srv-text n = (there n, λ h. rw (h .2) (simp (same-refl srvOid) (h .3)))
-    where
-      there : (n : GeneralName) → T (if-some (srvText n) f) → (tag : ℕ) × (c : List ℕ) × (n ≡ other srvOid tag c) × T (f c)
-      there (plain t c) h = absurd h
-      there (other o t c) h = go (same o srvOid) refl
-        where
-          go : (b : Bool) → same o srvOid ≡ b → (tag : ℕ) × (d : List ℕ) × (other o t c ≡ other srvOid tag d) × T (f d)
-          go true e = (t, c, ap (λ x. other x t c) (same-eq o srvOid (rw e tt)), rw e at h)
-          go false e = absurd (rw e at h)
+  srv-text n = (
+    λ h.
+        let s = some-passes (srvText n) f .0 h in
+        let i = srv-is n (s .0) .0 (s .1) in
+        (i .0, s .0, i .1, s .2),
+    λ h. some-passes (srvText n) f .1 (h .1, srv-is n (h .1) .1 (h .0, h .2), h .3),
+  )
 
   cn-text : (subject : List (Member Attribute)) (a : Member Attribute)
       → T (if-some (cnText subject a) f)

@@ -3,21 +3,21 @@ use Prim.Native.Nat.{ℕ, _+_, _-_, _≤_}
 use mathlib.Core.Path.{_≡_, refl, sym, ap, subst, _∙_}
 use mathlib.Core.Logic.{_≢_, inl, inr}
 use mathlib.Core.Bool.{Bool, true, false, cond, _&&_}
-use mathlib.Core.Option.{Option, none, some, Option·getD, Option·some-injective}
+use mathlib.Core.Option.{some, Option·getD, Option·some-injective}
 use mathlib.Core.List.{List, [], _∷_, _++_, append-assoc}
 use native.Mathlib.Omega.{arith}
-use lib.ListN.{length, take, drop, getElem?, length-append, take-append-drop}
-use lib.Seq.{take-at, drop-at, drop-drop}
+use lib.ListN.{length, take, drop, getElem?, length-append}
+use lib.Seq.{take-at, drop-at}
 use lib.Dec.{T, eqb}
 use borrow.Author.Tests.{eqb-true, eqb-false}
-use Rattle.rules.specs.Bytes.{part, same}
+use Rattle.rules.specs.Bytes.{part}
 use Rattle.rules.specs.Numbers.{dnsKind, srvKind, uriKind, cnKind}
 use Rattle.rules.specs.Records.{Reference}
 use Rattle.rules.specs.Der.{Member, element, lengthBytes}
-use Rattle.rules.specs.San.{GeneralName, plain, other, srvOid, tagOf, contentOf, writeName, sanGrammar}
-use Rattle.rules.specs.Subject.{Attribute, writeAttribute, isCn, cnTag, subjectGrammar}
+use Rattle.rules.specs.San.{GeneralName, srvOid, tagOf, contentOf, writeName}
+use Rattle.rules.specs.Subject.{Attribute, writeAttribute, isCn, cnTag}
 use Rattle.rules.specs.Seen.{sanInput, subjectInput, Reads}
-use Rattle.rules.specs.Matching.{Presented, matches, if-some, textMatches, taggedText, srvText, entryText, soleCn, cnText}
+use Rattle.rules.specs.Matching.{Presented, matches, textMatches, taggedText, srvText, entryText, soleCn, cnText}
 use Rattle.rules.specs.Verdict.{textOf, textPlace, past, witnessOf, numbersOf, witnessPart, witnessText, witnessPlace}
 use Rattle.rules.specs.declared.Row.{Row}
 use Rattle.rules.specs.declared.Outcome.{Outcome}
@@ -26,6 +26,7 @@ use Rattle.reading.specs.Answers.{no-some}
 use Rattle.reading.specs.Calls.{Inputs, outcomeOn, verdictOn, witnessTextOn, witnessPartOn, witnessPlaceOn}
 use Rattle.demands.specs.Statements.{Names, Read, MatchesAt, PairAt, First, Reported, sanString, subjectString}
 use Rattle.demands.proofs.Places.{san-rows, subject-rows}
+use Rattle.demands.proofs.Texts.{tagged-is, srv-is, some-passes}
 use Rattle.demands.proofs.Presented.{entry-is, attribute-is}
 use Rattle.demands.proofs.Judged.{Judged, broken, matched, mismatched, pairOf}
 use Rattle.demands.proofs.Verdicts.{answer, is-broken, is-matched, is-mismatched, judged-on}
@@ -67,25 +68,15 @@ module _ (b e t : List ℕ) (front behind : List ℕ) (r : Row) (size : r .lengt
 
 -- the content of an entry
 plain-ends : (tag : ℕ) (n : GeneralName) (t : List ℕ) → taggedText tag n ≡ some t → EndsIn (writeName n) t
-unfolding taggedText writeName tagOf contentOf
-plain-ends tag (other o u c) t e = absurd (no-some e)
-plain-ends tag (plain u c) t e = go (eqb u tag) refl
-  where
-    go : (b : Bool) → eqb u tag ≡ b → EndsIn (writeName (plain u c)) t
-    go true f = ends-element u c t (subst (λ x. EndsIn x t) (sym (Option·some-injective c t (rw f at e))) (ends-self t))
-    go false f = absurd (no-some (rw f at e))
+unfolding writeName tagOf contentOf
+plain-ends tag n t e = rw (tagged-is tag n t .0 e) (ends-element tag t t (ends-self t))
 
 -- the IA5String of an SRVName
 srv-ends : (n : GeneralName) (t : List ℕ) → srvText n ≡ some t → EndsIn (writeName n) t
-unfolding srvText writeName tagOf contentOf
-srv-ends (plain u c) t e = absurd (no-some e)
-srv-ends (other o u c) t e = go (same o srvOid) refl
-  where
-    go : (b : Bool) → same o srvOid ≡ b → EndsIn (writeName (other o u c)) t
-    go true f =
-        let q : c ≡ t = Option·some-injective c t (rw f at e) in
-        ends-element 0xA0 _ t (ends-append (element 0x06 o) _ t (ends-element 0xA0 _ t (ends-element u c t (subst (λ x. EndsIn x t) (sym q) (ends-self t)))))
-    go false f = absurd (no-some (rw f at e))
+unfolding writeName tagOf contentOf
+srv-ends n t e =
+    let h = srv-is n t .0 e in
+    rw (h .1) (ends-element 0xA0 _ t (ends-append (element 0x06 srvOid) _ t (ends-element 0xA0 _ t (ends-element (h .0) t t (ends-self t)))))
 
 -- of each kind
 entry-ends : (kind : ℕ) (n : GeneralName) (t : List ℕ) → entryText kind n ≡ some t → EndsIn (writeName n) t
@@ -117,11 +108,7 @@ cn-ends subject a t e = go (isCn (a .value) && cnTag (a .value .tag) && soleCn s
 -- a name that matches presents a text
 text-some : (r : Reference) (p : Presented) → T (matches r p) → (t : List ℕ) × (p .text ≡ some t)
 unfolding matches
-text-some r p h = go (p .text) refl h
-  where
-    go : (o : Option (List ℕ)) → p .text ≡ o → T (if-some o (textMatches r)) → (t : List ℕ) × (p .text ≡ some t)
-    go none e h = absurd h
-    go (some t) e h = (t, e)
+text-some r p h = let s = some-passes (p .text) (textMatches r) .0 h in (s .0, s .1)
 
 -- a presented identifier's text lies in these bytes, and ends where its element ends
 pub record Lies (b : List ℕ) (p : Presented) : Type 0 where
@@ -202,7 +189,7 @@ first-pair s l read a = go (judged-on s l read)
   where
     go : Judged l (outcomeOn s)
         → (i : ℕ) × (j : ℕ) × (pair : PairAt l i j) × First l i j × Reported s i (pair .reference) (pair .match .presented)
-    go (broken i b f e) = let z = answer (is-broken s e) in absurd (omega arith)
+    go (broken k i b f e) = let z = answer (is-broken s e) in absurd (omega arith)
     go (mismatched u n e) = let z = answer (is-mismatched s e) in absurd (omega arith)
     go (matched u i j p f e) = (i, j, p, f, reported s p e (text-lies s l read (p .reference) j (p .match)))
 

@@ -151,7 +151,7 @@ RecordsUnreadable s = ¬ T (goodRecords (s .references))
 abbrev pub Unreadable : {Name : Type 0} → Input Name → List ℕ → Type 0
 Unreadable {Name} I bytes = (list : List Name) → ¬ Reads I bytes list
 
--- the names of four readable strings
+-- the names of strings that are all readable; the constraints are those of each issuer
 pub record Names : Type 0 where
   pub references : List Reference
   pub san : List GeneralName

@@ -16,3 +16,6 @@ pub mod Labels
 pub mod Joined
 pub mod JoinedNames
 pub mod JoinedUri
+-- What a wildcard that breaks no excluded dNSName subtree cannot match: `kept-out`.
+pub mod SameLabels
+pub mod KeptOut
