@@ -1,61 +1,158 @@
--- Whether an entry of a SAN breaks the constraints, by the tests of the code.
-use Prim.Native.Nat.{ℕ, _-_, _≤_}
-use mathlib.Core.Path.{_≡_, sym, _∙_}
-use mathlib.Core.Bool.{Bool, true, false, not}
-use mathlib.Core.Option.{Option, some}
-use mathlib.Core.List.{List}
+-- Whether an entry of a SAN breaks a string, and the first entry that does, one entry at a time.
+use Prim.Native.Nat.{ℕ, suc, _+_, _-_, _≤_, _<_}
+use mathlib.Core.Path.{_≡_, refl, sym, ap, _∙_}
+use mathlib.Core.Bool.{Bool, true, false, cond, not, _||_}
+use mathlib.Core.Option.{Option, none, some}
+use mathlib.Core.List.{List, [], _∷_}
+use native.Mathlib.Omega.{arith}
+use native.Mathlib.Numerals.{add-one}
 use lib.ListN.{length, take, drop}
 use lib.Seq.{slice}
+use borrow.Author.Tests.{not-true, not-false}
 use Rattle.rules.specs.Der.{Member}
 use Rattle.rules.specs.San.{GeneralName}
-use Rattle.rules.specs.Matching.{allowed, breaks}
-use Rattle.reading.specs.Reader.{raw}
-use Rattle.reading.specs.Strings.{readName}
+use Rattle.rules.specs.Matching.{if-some, allowed, breaksAs, breaks, firstBroken}
+use Rattle.reading.specs.Reader.{isSome}
+use Rattle.reading.specs.Strings.{readName, readSan, readConstraints}
 use Rattle.reading.specs.Answers.{some-of}
+use Rattle.der.proofs.Elements.{not-found}
+use Rattle.der.specs.Places.{elementAt, found?}
 use Rattle.der.specs.Reads.{part-is}
-use Rattle.entries.proofs.Rules.{no-name}
-use Rattle.entries.specs.Entries.{nameAt, goodNameAt}
-use Rattle.entries.specs.declared.Name.{Name}
-use Rattle.entries.specs.declared.Name.the-variants.{Is, Malformed}
-use Rattle.constrained.specs.Broken.{breaksAt}
-use Rattle.constrained.proofs.Names.{Shown, shown-srv, shown-other, name-shown, name-formed}
+use Rattle.der.specs.declared.Element.{Element}
+use Rattle.der.specs.declared.Element.the-variants.{Found}
+use Rattle.der.specs.Runs.{Run, itemsIn, endOf, no-items, validated, namesOf, start-found, nothing-read, Filled, san-filled}
+use Rattle.entries.specs.Entries.{formOf, wholeAt, textPlace}
+use Rattle.constrained.specs.Subtrees.{FormSides, restricting}
+use Rattle.constrained.specs.Breaches.{firstOf, breaksAsAt, breaksAt}
+use Rattle.constrained.specs.declared.Sides.{Sides}
+use Rattle.constrained.specs.declared.First.{First}
+use Rattle.constrained.specs.declared.First.the-variants.{At, Nothing}
+use Rattle.constrained.proofs.Step.{with-entry}
+use Rattle.constrained.proofs.Texts.{text-there, text-not-there}
+use Rattle.constrained.proofs.Permission.{all-allowed}
 
-module _ (s : List ℕ) (t start end : ℕ) (h : start ≤ end) (fits : end ≤ length s) (good : goodNameAt s t start end ≡ true)
-    (r : Name) (r-is : r ≡ nameAt s t start end) where
-  abbrev answer : Option GeneralName
-  answer = readName (raw t (slice start end s))
+-- ---- one entry
 
-  -- an entry that has been validated is found
-  pub entry-malformed : r ≡ Malformed → (cs : List (Member GeneralName)) → false ≡ breaksAt cs s t start end
-  unfolding goodNameAt
-  entry-malformed e cs = some-of answer good λ n p. absurd (name-formed s t start end h fits n p (sym r-is ∙ e))
+module _ (kind : ℕ) (cs s : List ℕ) (at end : ℕ) (h : at + 2 ≤ end) (fits : end ≤ length s) (valid : isSome (wholeAt s at end) ≡ true) where
+  abbrev names : List (Member GeneralName)
+  names = namesOf readConstraints cs
 
-  module _ (k u x : ℕ) (shape : r ≡ Is k u x) where
-    shown : (n : GeneralName) → answer ≡ some n → Shown s end n k x
-    shown n p = name-shown s t start end h fits n p k u x (sym r-is ∙ shape)
+  -- the string has no subtree of the form
+  pub entry-free : (r : Sides) → FormSides (formOf kind) cs r → (any : Bool) → any ≡ restricting r → not any ≡ true
+      → false ≡ breaksAsAt (formOf kind) names s at end
+  unfolding breaksAsAt breaksAs
+  entry-free r w any any-is q = some-of (wholeAt s at end) valid λ m p. rw p (go (formOf kind .text m))
+    where
+      go : (o : Option (List ℕ)) → false ≡ if-some o (λ text. not (allowed (formOf kind) names text))
+      go none = refl
+      go (some c) = rw (all-allowed kind cs r w (sym any-is ∙ not-true any q) c)
 
-    -- its text lies in the string
-    pub entry-within : x ≤ end
-    unfolding goodNameAt
-    entry-within = some-of answer good λ n p. shown n p .within
+  pub some-restricts : (r : Sides) (any : Bool) → any ≡ restricting r → not any ≡ false → restricting r ≡ true
+  some-restricts r any any-is q = sym any-is ∙ not-false any q
 
-    -- a name of another form breaks nothing
-    pub entry-other : (k ≡ 9 → ⊥) → (cs : List (Member GeneralName)) → false ≡ breaksAt cs s t start end
-    unfolding goodNameAt breaksAt breaks
-    entry-other e cs = some-of answer good λ n p. rw (p, shown-other s end n k x (shown n p) e)
+  module _ (r : ℕ) (r-is : r ≡ textPlace (formOf kind) s at end) where
+    -- a name of another form
+    pub entry-other : end < r → false ≡ breaksAsAt (formOf kind) names s at end
+    unfolding breaksAsAt breaksAs
+    entry-other k = some-of (wholeAt s at end) valid λ m p. rw (p, text-not-there kind s at end (omega arith) fits r r-is m p k)
 
-    -- an SRVName breaks the constraints where they do not allow its text
-    srv-breaks : k ≡ 9 → (cs : List (Member GeneralName)) → breaksAt cs s t start end ≡ not (allowed cs (slice x end s))
-    unfolding goodNameAt breaksAt breaks
-    srv-breaks e cs = some-of answer good λ n p. rw (p, shown-srv s end n k x (shown n p) e)
+    -- a name of the form breaks the string where its text is not allowed
+    pub entry-text : r ≤ end → (b : Bool) → b ≡ allowed (formOf kind) names (take (end - r) (drop r s)) → not b ≡ breaksAsAt (formOf kind) names s at end
+    unfolding breaksAsAt breaksAs
+    entry-text k b b-is =
+        some-of (wholeAt s at end) valid λ m p.
+        rw (p, text-there kind s at end (omega arith) fits r r-is m p k, b-is, part-is s r end k)
 
-    pub entry-srv : k ≡ 9 → (cs : List (Member GeneralName)) (b : Bool) → b ≡ allowed cs (take (end - x) (drop x s)) → not b ≡ breaksAt cs s t start end
-    entry-srv e cs b b-is = rw (srv-breaks e cs, b-is, part-is s x end entry-within)
+-- of either form
+module _ (cs : List (Member GeneralName)) (s : List ℕ) (at end : ℕ) (valid : isSome (wholeAt s at end) ≡ true)
+    (srv : Bool) (srv-is : srv ≡ breaksAsAt (formOf 9) cs s at end) where
+  pub either-srv : srv ≡ true → true ≡ breaksAt cs s at end
+  unfolding breaksAt breaks breaksAsAt
+  either-srv e = some-of (wholeAt s at end) valid λ m p. rw (p, ← (rw p at srv-is), e)
+
+  pub either-dns : srv ≡ false → (dns : Bool) → dns ≡ breaksAsAt (formOf 2) cs s at end → dns ≡ breaksAt cs s at end
+  unfolding breaksAt breaks breaksAsAt
+  either-dns e dns dns-is = some-of (wholeAt s at end) valid λ m p. (rw p at dns-is) ∙ rw (p, ← (rw p at srv-is), e)
+
+-- ---- one entry and the others
+
+-- what is left from `at` on, whose entries count from i, finds what the whole does
+unfoldable pub BrokenLeft : List (Member GeneralName) → List ℕ → ℕ → ℕ → ℕ → ℕ → Type 0
+BrokenLeft cs s start end at i = firstBroken i cs (itemsIn readName s at end) ≡ firstBroken 0 cs (itemsIn readName s start end)
+
+pub broken-begin : (cs : List (Member GeneralName)) (s : List ℕ) (start end : ℕ) → BrokenLeft cs s start end start 0
+unfolding BrokenLeft
+broken-begin cs s start end = refl
+
+module _ (cs : List (Member GeneralName)) (s : List ℕ) (start end at i : ℕ) (inv : Run readName s at end) (left : BrokenLeft cs s start end at i) where
+  -- no entry is left
+  pub broken-end : end ≤ at → Nothing ≡ firstOf (firstBroken 0 cs (itemsIn readName s start end))
+  unfolding BrokenLeft firstOf firstBroken
+  broken-end h =
+      let k : at ≡ end = omega (arith, inv .order) in
+      rw (← rw (k, no-items readName s end) at left)
+
+  module _ (more : at < end) (n : ℕ) (n-is : n ≡ endOf (elementAt s at end)) (r : Bool) (r-is : r ≡ breaksAt cs s at n) where
+    -- this entry breaks the string, or the search goes on
+    broken-step : firstBroken i cs (itemsIn readName s at end) ≡ cond r (some i) (firstBroken (suc i) cs (itemsIn readName s n end))
+    unfolding firstBroken breaksAt
+    broken-step = with-entry s at end inv more n n-is λ m p q. rw (q, r-is, p)
+
+    -- it is reported
+    pub broken-here : r ≡ true → At i ≡ firstOf (firstBroken 0 cs (itemsIn readName s start end))
+    unfolding BrokenLeft firstOf
+    broken-here q = ap firstOf (rw (broken-step, q) at left)
+
+    -- the next one has the next index
+    pub broken-next : r ≡ false → BrokenLeft cs s start end n (i + 1)
+    unfolding BrokenLeft
+    broken-next q = rw add-one (rw (broken-step, q) at left)
+
+-- ---- the index is no greater than the SAN's length
+
+pub index-here : (i n : ℕ) → i ≤ n → (j : ℕ) → At i ≡ At j → j ≤ n
+index-here i n h j e = let k : j ≡ i = cc in omega arith
+
+pub index-none : (n j : ℕ) → Nothing ≡ At j → j ≤ n
+index-none n j e = let z : _≡_ {A = ℕ} 0 1 = cc in absurd (omega arith)
+
+-- ---- a whole SAN
+
+module _ (s : List ℕ) (e : Element) (e-is : e ≡ elementAt s 0 (length s)) where
+  -- no element, no entries
+  pub san-none : found? e ≡ false → (cs : List (Member GeneralName)) → Nothing ≡ firstOf (firstBroken 0 cs (namesOf readSan s))
+  unfolding firstOf firstBroken namesOf readSan
+  san-none q cs =
+      let k : readSan s ≡ none = nothing-read s e e-is _ q in
+      rw k
+
+  module _ (valid : validated readSan s ≡ true) (t b n : ℕ) (found : e ≡ Found t b n) where
+    content : Filled readName s (namesOf readSan s) b
+    content = rw (start-found s e e-is t b n found) (san-filled s valid)
+
+    -- the entries that a SAN holds
+    pub san-entries : Run readName s b (length s)
+    san-entries = content .elements
+
+    -- what is found in them is found in the SAN
+    pub san-answer : (cs : List (Member GeneralName)) (r : First) → r ≡ firstOf (firstBroken 0 cs (itemsIn readName s b (length s))) → r ≡ firstOf (firstBroken 0 cs (namesOf readSan s))
+    san-answer cs r e = e ∙ rw (content .list)
 
 pub ruleset laws = (
-  no-name,
-  entry-malformed,
-  entry-within,
+  not-found,
+  entry-free,
+  some-restricts,
   entry-other,
-  entry-srv,
+  entry-text,
+  either-srv,
+  either-dns,
+  broken-begin,
+  broken-end,
+  broken-here,
+  broken-next,
+  index-here,
+  index-none,
+  san-none,
+  san-entries,
+  san-answer,
 )

@@ -13,7 +13,7 @@ use Rattle.rules.specs.Bytes.{some?, all, chain}
 use Rattle.rules.specs.Der.{Member, Group}
 use Rattle.rules.specs.San.{GeneralName}
 use Rattle.rules.specs.Constraints.{permitted, excluded, goodSubtree}
-use Rattle.rules.specs.Matching.{srvText, withSome, srvSubtrees}
+use Rattle.rules.specs.Matching.{withSome, Form, subtreesOf}
 use Rattle.reading.specs.Reader.{numberedBy, raw, items}
 use Rattle.reading.specs.Strings.{flat, readSubtree, readSide, rising, readSides, readConstraints}
 use Rattle.reading.specs.Answers.{then-some, when-some, and-parts, all-weaken}
@@ -35,22 +35,23 @@ with-append : (o : Option (List ℕ)) (x y : List (List ℕ)) → withSome o (x 
 with-append none x y = refl
 with-append (some c) x y = refl
 
--- the names of the side
-own-texts : (k : ℕ) (m : List GeneralName) (l : List (Member GeneralName)) → srvSubtrees k (members k m ++ l) ≡ textsOf m ++ srvSubtrees k l
-unfolding srvSubtrees textsOf
-own-texts k [] l = refl
-own-texts k (n ∷ m) l = rw (eq-eqb k k refl, own-texts k m l) (with-append (srvText n) (textsOf m) (srvSubtrees k l))
+module _ (form : Form) where
+  -- the names of the side
+  own-texts : (k : ℕ) (m : List GeneralName) (l : List (Member GeneralName)) → subtreesOf form k (members k m ++ l) ≡ textsOf form m ++ subtreesOf form k l
+  unfolding subtreesOf textsOf
+  own-texts k [] l = refl
+  own-texts k (n ∷ m) l = rw (eq-eqb k k refl, own-texts k m l) (with-append (form .text n) (textsOf form m) (subtreesOf form k l))
 
--- the names of another side
-other-texts : (k j : ℕ) (m : List GeneralName) (l : List (Member GeneralName)) → (j ≡ k → ⊥) → srvSubtrees k (members j m ++ l) ≡ srvSubtrees k l
-unfolding srvSubtrees
-other-texts k j [] l h = refl
-other-texts k j (n ∷ m) l h = rw (ne-eqb j k h) (other-texts k j m l h)
+  -- the names of another side
+  other-texts : (k j : ℕ) (m : List GeneralName) (l : List (Member GeneralName)) → (j ≡ k → ⊥) → subtreesOf form k (members j m ++ l) ≡ subtreesOf form k l
+  unfolding subtreesOf
+  other-texts k j [] l h = refl
+  other-texts k j (n ∷ m) l h = rw (ne-eqb j k h) (other-texts k j m l h)
 
--- no names, no texts
-no-texts : (k : ℕ) → srvSubtrees k [] ≡ []
-unfolding srvSubtrees
-no-texts k = refl
+  -- no names, no texts
+  no-texts : (k : ℕ) → subtreesOf form k [] ≡ []
+  unfolding subtreesOf
+  no-texts k = refl
 
 -- ---- the sides that a run holds
 
@@ -76,23 +77,24 @@ second-side g x gs a c =
     let n : 0 < x .number = omega (arith, ltb→lt (g .number) (x .number) (r .0)) in
     (omega (arith, ltb→lt (x .number) 2 (q .0)), last-side x gs (p .1) (r .1) n)
 
--- the texts of each side, where there is one side
-one-own : (g : Group GeneralName) → srvSubtrees (g .number) (flat (g ∷ [])) ≡ textsOf (g .members)
-unfolding flat
-one-own g = own-texts (g .number) (g .members) [] ∙ rw no-texts (append-nil (textsOf (g .members)))
+module _ (form : Form) where
+  -- the texts of each side, where there is one side
+  one-own : (g : Group GeneralName) → subtreesOf form (g .number) (flat (g ∷ [])) ≡ textsOf form (g .members)
+  unfolding flat
+  one-own g = own-texts form (g .number) (g .members) [] ∙ rw (no-texts form) (append-nil (textsOf form (g .members)))
 
-one-other : (k : ℕ) (g : Group GeneralName) → (g .number ≡ k → ⊥) → srvSubtrees k (flat (g ∷ [])) ≡ []
-unfolding flat
-one-other k g h = other-texts k (g .number) (g .members) [] h ∙ no-texts k
+  one-other : (k : ℕ) (g : Group GeneralName) → (g .number ≡ k → ⊥) → subtreesOf form k (flat (g ∷ [])) ≡ []
+  unfolding flat
+  one-other k g h = other-texts form k (g .number) (g .members) [] h ∙ no-texts form k
 
--- and where there are two
-two-first : (g x : Group GeneralName) → (x .number ≡ g .number → ⊥) → srvSubtrees (g .number) (flat (g ∷ x ∷ [])) ≡ textsOf (g .members)
-unfolding flat
-two-first g x h = own-texts (g .number) (g .members) _ ∙ rw (one-other (g .number) x h) (append-nil (textsOf (g .members)))
+  -- and where there are two
+  two-first : (g x : Group GeneralName) → (x .number ≡ g .number → ⊥) → subtreesOf form (g .number) (flat (g ∷ x ∷ [])) ≡ textsOf form (g .members)
+  unfolding flat
+  two-first g x h = own-texts form (g .number) (g .members) _ ∙ rw (one-other (g .number) x h) (append-nil (textsOf form (g .members)))
 
-two-second : (g x : Group GeneralName) → (g .number ≡ x .number → ⊥) → srvSubtrees (x .number) (flat (g ∷ x ∷ [])) ≡ textsOf (x .members)
-unfolding flat
-two-second g x h = other-texts (x .number) (g .number) (g .members) _ h ∙ one-own x
+  two-second : (g x : Group GeneralName) → (g .number ≡ x .number → ⊥) → subtreesOf form (x .number) (flat (g ∷ x ∷ [])) ≡ textsOf form (x .members)
+  unfolding flat
+  two-second g x h = other-texts form (x .number) (g .number) (g .members) _ h ∙ one-own x
 
 -- ---- one side, as a part
 
@@ -101,7 +103,7 @@ record SideAt (s : List ℕ) (t b n : ℕ) (g : Group GeneralName) : Type 0 wher
   number-is : t ≡ 0xA0 + g .number
   low : g .number < 2
   readable : Readable readSubtree s b n
-  texts : textsIn s b n ≡ textsOf (g .members)
+  texts : (form : Form) → textsIn form s b n ≡ textsOf form (g .members)
 
 -- a side that is read is found so
 side-at : (s : List ℕ) (t b n : ℕ) (g : Group GeneralName) → readSide (raw t (slice b n s)) ≡ some g → SideAt s t b n g
@@ -120,23 +122,23 @@ side-at s t b n g e =
       number-is = rw g-is (omega arith);
       low = rw x-is at k;
       readable = a .0;
-      texts = rw (g-is, a .1);
+      texts = λ form. rw (g-is, a .1);
     }
 
 -- a side with no subtrees
-no-side : (s : List ℕ) (k : ℕ) → srvSubtrees k (namesOf readConstraints s) ≡ [] → Side s k 0 0
+no-side : (s : List ℕ) (k : ℕ) → ((form : Form) → subtreesOf form k (namesOf readConstraints s) ≡ []) → Side s k 0 0
 unfolding textsIn textsOf
 no-side s k e = record {
   subtrees = record { order = omega arith; fits = omega arith; readable = no-run readSubtree s 0 };
-  texts = rw (e, no-items readSubtree s 0);
+  texts = λ form. rw (e form, no-items readSubtree s 0);
 }
 
 -- a side with the subtrees of a group
 one-side : (s : List ℕ) (k t b n : ℕ) (g : Group GeneralName) → SideAt s t b n g → b ≤ n → n ≤ length s
-    → srvSubtrees k (namesOf readConstraints s) ≡ textsOf (g .members) → Side s k b n
+    → ((form : Form) → subtreesOf form k (namesOf readConstraints s) ≡ textsOf form (g .members)) → Side s k b n
 one-side s k t b n g w h fits e = record {
   subtrees = record { order = h; fits = fits; readable = w .readable };
-  texts = w .texts ∙ sym e;
+  texts = λ form. w .texts form ∙ sym (e form);
 }
 
 -- ---- the whole string
@@ -150,10 +152,10 @@ module _ (s : List ℕ) (e : Element) (e-is : e ≡ elementAt s 0 (length s)) wh
       rw k
 
   pub sides-none : found? e ≡ false → BothSides s (record { permitted = nowhere; excluded = nowhere })
-  unfolding srvSubtrees
+  unfolding subtreesOf
   sides-none q = record {
-    inside = no-side s permitted (rw (none-listed q));
-    outside = no-side s excluded (rw (none-listed q));
+    inside = no-side s permitted (λ form. rw (none-listed q));
+    outside = no-side s excluded (λ form. rw (none-listed q));
   }
 
   -- the content of constraints that have been validated is the run of their sides
@@ -232,8 +234,8 @@ module _ (s : List ℕ) (start end : ℕ) (run : SideRun s start end) (e : Eleme
         let rest = last-side g (itemsIn readSide s n end) lows rises (omega arith) in
         let l : flat (g ∷ []) ≡ namesOf readConstraints s = rw rest at listed in
         record {
-          inside = no-side s permitted (rw (← l) (one-other permitted g (λ j. omega arith)));
-          outside = one-side s excluded t b n g one-at side-order side-fits (rw (← l, ← k) (one-own g));
+          inside = no-side s permitted (λ form. rw (← l) (one-other form permitted g (λ j. omega arith)));
+          outside = one-side s excluded t b n g one-at side-order side-fits (λ form. rw (← l, ← k) (one-own form g));
         }
 
     module _ (other : t ≡ 0xA1 → ⊥) (f : Element) (f-is : f ≡ elementAt s n end) where
@@ -250,8 +252,8 @@ module _ (s : List ℕ) (start end : ℕ) (run : SideRun s start end) (e : Eleme
           let g = one .item in
           let l : flat (g ∷ []) ≡ namesOf readConstraints s = rw (nothing-more (leb end n) refl) at listed in
           record {
-            inside = one-side s permitted t b n g one-at side-order side-fits (rw (← l, ← number-is) (one-own g));
-            outside = no-side s excluded (rw (← l) (one-other excluded g (λ j. omega (arith, number-is))));
+            inside = one-side s permitted t b n g one-at side-order side-fits (λ form. rw (← l, ← number-is) (one-own form g));
+            outside = no-side s excluded (λ form. rw (← l) (one-other form excluded g (λ j. omega (arith, number-is))));
           }
         where
           nothing-more : (c : Bool) → leb end n ≡ c → itemsIn readSide s n end ≡ []
@@ -277,10 +279,10 @@ module _ (s : List ℕ) (start end : ℕ) (run : SideRun s start end) (e : Eleme
             let w = second-side g x (itemsIn readSide s n′ end) (rw (two .list) at lows) (rw (two .list) at rises) in
             let l : flat (g ∷ x ∷ []) ≡ namesOf readConstraints s = rw (two .list, w .1) at listed in
             record {
-              inside = one-side s permitted t b n g one-at side-order side-fits (rw (← l, ← number-is) (two-first g x (λ j. omega (arith, number-is, w .0))));
+              inside = one-side s permitted t b n g one-at side-order side-fits (λ form. rw (← l, ← number-is) (two-first form g x (λ j. omega (arith, number-is, w .0))));
               outside =
                   one-side s excluded t′ b′ n′ x (side-at s t′ b′ n′ x (two .item-is)) (two .read .body) (omega (arith, two .read .rest, run .sides .fits))
-                  (rw (← l, ← w .0) (two-second g x (λ j. omega (arith, number-is, w .0))));
+                  (λ form. rw (← l, ← w .0) (two-second form g x (λ j. omega (arith, number-is, w .0))));
             }
 
     -- what stands after the first side, which is the permitted one

@@ -1,8 +1,7 @@
 pub mod Step
-pub mod Names
+pub mod Texts
 pub mod Parts
 pub mod Groups
 pub mod Permission
 pub mod Entry
-pub mod First
-pub mod San
+pub mod Strings

@@ -1,152 +1,129 @@
 -- A part of the constraints, one subtree at a time.
-use Prim.Native.Nat.{ℕ, _-_, _≤_, _<_}
+use Prim.Native.Nat.{ℕ, _≤_, _<_}
 use mathlib.Core.Path.{_≡_, refl, sym, _∙_}
 use mathlib.Core.Bool.{Bool, true, false, cond, _||_}
 use mathlib.Core.Option.{Option, none, some}
-use mathlib.Core.List.{List, []}
+use mathlib.Core.List.{List, [], _∷_}
 use native.Mathlib.Omega.{arith}
 use borrow.Author.Tests.{lt-ltb, le-ltb}
 use Rattle.rules.specs.Bytes.{some?}
-use Rattle.rules.specs.Names.{inSubtree}
-use Rattle.rules.specs.Matching.{withSome, if-some, liesIn}
-use Rattle.reading.specs.Reader.{isSome}
+use Rattle.rules.specs.San.{GeneralName}
+use Rattle.rules.specs.Matching.{withSome, if-some, Form}
 use Rattle.reading.specs.Strings.{readSubtree}
-use Rattle.der.specs.Places.{elementAt, found?}
-use Rattle.der.specs.declared.Element.{Element}
-use Rattle.der.specs.declared.Element.the-variants.{Found}
-use Rattle.entries.specs.Entries.{goodSubtreeAt}
-use Rattle.der.specs.Runs.{Run, First, first, no-element, no-items}
-use Rattle.constrained.specs.Subtrees.{textsOf, textsIn, textAt, srvAt, holdsAt, Narrowed}
-
--- ---- one subtree and the others
-
-module _ (s : List ℕ) (at end : ℕ) (run : Run readSubtree s at end) (more : at < end) (e : Element) (e-is : e ≡ elementAt s at end) (t b n : ℕ)
-    (found : e ≡ Found t b n) where
-  one : First readSubtree s at end t b n
-  one = first readSubtree s at end run more e e-is t b n found
-
-  -- the subtree has been validated
-  pub subtree-good : goodSubtreeAt s t b n ≡ true
-  unfolding goodSubtreeAt
-  subtree-good = rw (one .item-is)
-
-  texts-step : textsIn s at end ≡ withSome (textAt s t b n) (textsIn s n end)
-  unfolding textsIn textsOf textAt
-  texts-step = rw (one .list, one .item-is)
+use Rattle.der.specs.Places.{elementAt}
+use Rattle.der.specs.Runs.{Run, itemsIn, startOf, endOf, no-items}
+use Rattle.entries.specs.Entries.{formOf, wholeAt, textPlace}
+use Rattle.constrained.specs.Subtrees.{meeting, meetsAt, meetsAny, textsOf, textsIn, Narrowed}
+use Rattle.constrained.proofs.Step.{step-fits, with-subtree}
+use Rattle.constrained.proofs.Texts.{text-there, text-not-there}
 
 -- no subtree is left
-texts-end : (s : List ℕ) (at end : ℕ) → Run readSubtree s at end → end ≤ at → textsIn s at end ≡ []
+texts-end : (form : Form) (s : List ℕ) (at end : ℕ) → Run readSubtree s at end → end ≤ at → textsIn form s at end ≡ []
 unfolding textsIn textsOf
-texts-end s at end inv h =
+texts-end form s at end inv h =
     let k : at ≡ end = omega (arith, inv .order) in
     rw (k, no-items readSubtree s end)
 
--- ---- the first SRVName subtree
+-- one subtree and the others
+texts-step : (form : Form) (s : List ℕ) (at end n : ℕ) (m : GeneralName) → itemsIn readSubtree s at end ≡ m ∷ itemsIn readSubtree s n end
+    → textsIn form s at end ≡ withSome (form .text m) (textsIn form s n end)
+unfolding textsIn textsOf
+texts-step form s at end n m e = rw e
 
--- the part from `at` on has the SRVNames that the part from `start` on has
-unfoldable pub SameTexts : List ℕ → ℕ → ℕ → ℕ → Type 0
-SameTexts s start end at = textsIn s at end ≡ textsIn s start end
+-- ---- the first subtree of the form
 
-pub same-begin : (s : List ℕ) (start end : ℕ) → SameTexts s start end start
+-- the part from `at` on has the texts that the part from `start` on has
+unfoldable pub SameTexts : Form → List ℕ → ℕ → ℕ → ℕ → Type 0
+SameTexts form s start end at = textsIn form s at end ≡ textsIn form s start end
+
+pub same-begin : (form : Form) (s : List ℕ) (start end : ℕ) → SameTexts form s start end start
 unfolding SameTexts
-same-begin s start end = refl
+same-begin form s start end = refl
 
-module _ (s : List ℕ) (start end at : ℕ) (inv : Run readSubtree s at end) (left : SameTexts s start end at) where
-  -- no SRVName subtree is left
-  pub narrow-end : end ≤ at → Narrowed s start end at
+module _ (kind : ℕ) (s : List ℕ) (start end at : ℕ) (inv : Run readSubtree s at end) (left : SameTexts (formOf kind) s start end at) where
+  -- no subtree of the form is left
+  pub narrow-end : end ≤ at → Narrowed (formOf kind) s start end at
   unfolding SameTexts
   narrow-end h = record {
     subtrees = inv;
     texts = left;
-    any = rw (← left, texts-end s at end inv h, le-ltb at end h);
+    any-there = rw (← left, texts-end (formOf kind) s at end inv h, le-ltb at end h);
   }
 
-  module _ (more : at < end) (e : Element) (e-is : e ≡ elementAt s at end) where
-    -- an element is there
-    pub narrow-none : found? e ≡ false → Narrowed s start end end
-    narrow-none q = absurd (no-element readSubtree s at end inv more e e-is q)
+  module _ (more : at < end) (n : ℕ) (n-is : n ≡ endOf (elementAt s at end)) (b : ℕ) (b-is : b ≡ startOf (elementAt s at end))
+      (r : ℕ) (r-is : r ≡ textPlace (formOf kind) s b n) where
+    -- the subtree is of the form
+    pub narrow-here : r ≤ n → Narrowed (formOf kind) s start end at
+    unfolding SameTexts
+    narrow-here k =
+        with-subtree s at end inv more n n-is b b-is λ m h p q.
+        record {
+          subtrees = inv;
+          texts = left;
+          any-there =
+              rw (← left, texts-step (formOf kind) s at end n m q, lt-ltb at end more, text-there kind s b n h (step-fits readSubtree s at end inv more n n-is) r r-is m p k);
+        }
 
-    module _ (t b n : ℕ) (found : e ≡ Found t b n) (r : Bool) (r-is : r ≡ srvAt s t b n) where
-      step : textsIn s at end ≡ withSome (textAt s t b n) (textsIn s n end)
-      step = texts-step s at end inv more e e-is t b n found
+    -- it is of another, and is passed over
+    pub narrow-next : n < r → SameTexts (formOf kind) s start end n
+    unfolding SameTexts
+    narrow-next k =
+        with-subtree s at end inv more n n-is b b-is λ m h p q.
+        rw (texts-step (formOf kind) s at end n m q, text-not-there kind s b n h (step-fits readSubtree s at end inv more n n-is) r r-is m p k) at left
 
-      -- the subtree is an SRVName
-      pub narrow-here : r ≡ true → Narrowed s start end at
-      unfolding SameTexts srvAt
-      narrow-here q = record {
-        subtrees = inv;
-        texts = left;
-        any = rw (← left, step, lt-ltb at end more) (go (textAt s t b n) (sym r-is ∙ q));
-      }
-        where
-          go : (o : Option (List ℕ)) → isSome o ≡ true → some? (withSome o (textsIn s n end)) ≡ true
-          go (some c) d = refl
-          go none d = let z : _≡_ {A = ℕ} 0 1 = cc in absurd (omega arith)
+-- ---- meeting a subtree
 
-      -- it is none, and is passed over
-      pub narrow-next : r ≡ false → SameTexts s start end n
-      unfolding SameTexts srvAt
-      narrow-next q = go (textAt s t b n) refl
-        where
-          go : (o : Option (List ℕ)) → textAt s t b n ≡ o → textsIn s n end ≡ textsIn s start end
-          go none d = rw (step, d) at left
-          go (some c) d =
-              let k : true ≡ false = rw d at (sym r-is ∙ q) in
-              let z : _≡_ {A = ℕ} 0 1 = cc in absurd (omega arith)
+module _ (kind : ℕ) (x : Bool) (s : List ℕ) (start end : ℕ) (name : List ℕ) where
+  abbrev met : List (List ℕ) → Bool
+  met l = meetsAny kind x l name
 
--- ---- lying in a subtree
+  -- a name meets a subtree from `at` on where it meets one from `start` on
+  unfoldable pub MeetsLeft : ℕ → Type 0
+  MeetsLeft at = met (textsIn (formOf kind) s at end) ≡ met (textsIn (formOf kind) s start end)
 
--- a name lies in a subtree from `at` on where it lies in one from `start` on
-unfoldable pub LiesLeft : List ℕ → ℕ → ℕ → List ℕ → ℕ → Type 0
-LiesLeft s start end name at = liesIn (textsIn s at end) name ≡ liesIn (textsIn s start end) name
+  pub meets-begin : MeetsLeft start
+  unfolding MeetsLeft
+  meets-begin = refl
 
-pub lies-begin : (s : List ℕ) (start end : ℕ) (name : List ℕ) → LiesLeft s start end name start
-unfolding LiesLeft
-lies-begin s start end name = refl
+  module _ (at : ℕ) (inv : Run readSubtree s at end) (left : MeetsLeft at) where
+    -- no subtree is left
+    pub meets-end : end ≤ at → false ≡ met (textsIn (formOf kind) s start end)
+    unfolding MeetsLeft meetsAny
+    meets-end h = rw (texts-end (formOf kind) s at end inv h) at left
 
-module _ (s : List ℕ) (start end : ℕ) (name : List ℕ) (at : ℕ) (inv : Run readSubtree s at end) (left : LiesLeft s start end name at) where
-  -- no subtree is left
-  pub lies-end : end ≤ at → false ≡ liesIn (textsIn s start end) name
-  unfolding LiesLeft liesIn
-  lies-end h = rw (texts-end s at end inv h) at left
-
-  module _ (more : at < end) (e : Element) (e-is : e ≡ elementAt s at end) where
-    -- an element is there
-    pub lies-none : found? e ≡ false → false ≡ liesIn (textsIn s start end) name
-    lies-none q = absurd (no-element readSubtree s at end inv more e e-is q)
-
-    module _ (t b n : ℕ) (found : e ≡ Found t b n) (r : Bool) (r-is : r ≡ holdsAt s t b n name) where
-      -- the name lies in this subtree, or in one of the others
-      lies-step : liesIn (textsIn s at end) name ≡ cond r true (liesIn (textsIn s n end) name)
-      unfolding liesIn holdsAt
-      lies-step = rw (texts-step s at end inv more e e-is t b n found, r-is) (go (textAt s t b n))
+    module _ (more : at < end) (n : ℕ) (n-is : n ≡ endOf (elementAt s at end)) (b : ℕ) (b-is : b ≡ startOf (elementAt s at end))
+        (r : Bool) (r-is : r ≡ meetsAt kind x s b n name) where
+      -- the name meets this subtree, or one of the others
+      meets-step : met (textsIn (formOf kind) s at end) ≡ cond r true (met (textsIn (formOf kind) s n end))
+      unfolding meetsAt meetsAny
+      meets-step =
+          with-subtree s at end inv more n n-is b b-is λ m h p q.
+          rw (texts-step (formOf kind) s at end n m q, r-is, p) (go (formOf kind .text m))
         where
           or-is : (p q : Bool) → (p || q) ≡ cond p true q
           or-is true q = refl
           or-is false q = refl
 
-          go : (o : Option (List ℕ)) → liesIn (withSome o (textsIn s n end)) name ≡ cond (if-some o (λ c. inSubtree c name)) true (liesIn (textsIn s n end) name)
+          go : (o : Option (List ℕ)) → met (withSome o (textsIn (formOf kind) s n end))
+              ≡ cond (if-some o (λ t. meeting kind x t name)) true (met (textsIn (formOf kind) s n end))
           go none = refl
-          go (some c) = or-is (inSubtree c name) _
+          go (some t) = or-is (meeting kind x t name) _
 
-      pub lies-here : r ≡ true → true ≡ liesIn (textsIn s start end) name
-      unfolding LiesLeft
-      lies-here q = rw (lies-step, q) at left
+      pub meets-here : r ≡ true → true ≡ met (textsIn (formOf kind) s start end)
+      unfolding MeetsLeft
+      meets-here q = rw (meets-step, q) at left
 
-      pub lies-next : r ≡ false → LiesLeft s start end name n
-      unfolding LiesLeft
-      lies-next q = rw (lies-step, q) at left
+      pub meets-next : r ≡ false → MeetsLeft n
+      unfolding MeetsLeft
+      meets-next q = rw (meets-step, q) at left
 
 pub ruleset laws = (
-  subtree-good,
   same-begin,
   narrow-end,
-  narrow-none,
   narrow-here,
   narrow-next,
-  lies-begin,
-  lies-end,
-  lies-none,
-  lies-here,
-  lies-next,
+  meets-begin,
+  meets-end,
+  meets-here,
+  meets-next,
 )

@@ -1,22 +1,23 @@
--- Which presented SRVNames the constraints allow, by the tests of the code.
-use Prim.Native.Nat.{ℕ, _-_, _≤_, _<_}
+-- Which presented identifiers a string allows, by the tests of the code.
+use Prim.Native.Nat.{ℕ, _≤_, _<_}
 use mathlib.Core.Path.{_≡_, refl, _∙_}
 use mathlib.Core.Bool.{Bool, true, false, not, _&&_, _||_}
 use mathlib.Core.List.{List}
 use native.Mathlib.Omega.{arith}
 use lib.Dec.{ltb}
 use borrow.Author.Tests.{lt-ltb, le-ltb}
-use Rattle.rules.specs.Names.{srvId}
+use Rattle.rules.specs.Bytes.{any}
 use Rattle.rules.specs.Der.{Member}
 use Rattle.rules.specs.San.{GeneralName}
 use Rattle.rules.specs.Constraints.{permitted, excluded}
-use Rattle.rules.specs.Matching.{srvSubtrees, liesIn, allowed}
+use Rattle.rules.specs.Matching.{Form, subtreesOf, allowed}
 use Rattle.reading.specs.Strings.{readSubtree, readConstraints}
 use Rattle.der.specs.Runs.{Run, namesOf}
-use Rattle.constrained.specs.Subtrees.{textsIn, Narrowed, BothSides, SrvSides, restricting}
+use Rattle.entries.specs.Entries.{formOf}
+use Rattle.constrained.specs.Subtrees.{meeting, meetsAny, textsIn, Narrowed, Side, BothSides, FormSide, FormSides, restricting}
 use Rattle.constrained.specs.declared.Sides.{Sides}
 
--- ---- the sides from their first SRVName subtrees on
+-- ---- the sides from their first subtrees of the form on
 
 module _ (s : List ℕ) (r : Sides) (b : BothSides s r) where
   -- each side is a run of subtrees
@@ -26,19 +27,16 @@ module _ (s : List ℕ) (r : Sides) (b : BothSides s r) where
   pub excluded-subtrees : Run readSubtree s (r .excluded .start) (r .excluded .end)
   excluded-subtrees = b .outside .subtrees
 
-  -- it has the same SRVNames from the first of them on
-  pub srv-sides : (p x : ℕ) → Narrowed s (r .permitted .start) (r .permitted .end) p → Narrowed s (r .excluded .start) (r .excluded .end) x
-      → SrvSides s (record { permitted = record { start = p; end = r .permitted .end }; excluded = record { start = x; end = r .excluded .end } })
-  srv-sides p x m n = record {
-    both = record {
-      inside = record { subtrees = m .subtrees; texts = m .texts ∙ b .inside .texts };
-      outside = record { subtrees = n .subtrees; texts = n .texts ∙ b .outside .texts };
-    };
-    permits = rw (b .inside .texts) at (m .any);
-    excludes = rw (b .outside .texts) at (n .any);
+  -- it has the same texts from the first of them on
+  pub form-sides : (form : Form) (p x : ℕ) → Narrowed form s (r .permitted .start) (r .permitted .end) p
+      → Narrowed form s (r .excluded .start) (r .excluded .end) x
+      → FormSides form s (record { permitted = record { start = p; end = r .permitted .end }; excluded = record { start = x; end = r .excluded .end } })
+  form-sides form p x m n = record {
+    inside = record { subtrees = m .subtrees; texts = m .texts ∙ b .inside .texts form; any-there = rw (b .inside .texts form) at (m .any-there) };
+    outside = record { subtrees = n .subtrees; texts = n .texts ∙ b .outside .texts form; any-there = rw (b .outside .texts form) at (n .any-there) };
   }
 
--- ---- whether there are SRVName subtrees
+-- ---- whether there are subtrees of the form
 
 module _ (r : Sides) where
   pub restricts-permitted : r .permitted .start < r .permitted .end → true ≡ restricting r
@@ -49,67 +47,92 @@ module _ (r : Sides) where
   unfolding restricting
   restricts-excluded h = rw (le-ltb _ _ h)
 
--- ---- a presented SRVName
+-- ---- a presented identifier
 
-module _ (s : List ℕ) (r : Sides) (w : SrvSides s r) where
+module _ (kind : ℕ) (s : List ℕ) (r : Sides) (w : FormSides (formOf kind) s r) where
   abbrev names : List (Member GeneralName)
   names = namesOf readConstraints s
 
   abbrev inside : List (List ℕ)
-  inside = srvSubtrees permitted names
+  inside = subtreesOf (formOf kind) permitted names
 
   abbrev outside : List (List ℕ)
-  outside = srvSubtrees excluded names
+  outside = subtreesOf (formOf kind) excluded names
 
-  -- without SRVName subtrees every text is allowed
-  pub all-allowed : restricting r ≡ false → (text : List ℕ) → allowed names text ≡ true
+  abbrev reached : List ℕ → Bool
+  reached text = any (λ t. formOf kind .reaches t text) outside
+
+  abbrev within : List ℕ → Bool
+  within text = any (λ t. formOf kind .inside t text) inside
+
+  pub permitted-run : Run readSubtree s (r .permitted .start) (r .permitted .end)
+  permitted-run = w .inside .subtrees
+
+  pub excluded-run : Run readSubtree s (r .excluded .start) (r .excluded .end)
+  excluded-run = w .outside .subtrees
+
+  -- without subtrees of the form every text is allowed
+  pub all-allowed : restricting r ≡ false → (text : List ℕ) → allowed (formOf kind) names text ≡ true
   unfolding restricting allowed
-  all-allowed q text = rw (w .permits, w .excludes) (go (ltb (r .permitted .start) (r .permitted .end)) (ltb (r .excluded .start) (r .excluded .end)) q)
+  all-allowed q text =
+      rw (w .inside .any-there, w .outside .any-there) (go (ltb (r .permitted .start) (r .permitted .end)) (ltb (r .excluded .start) (r .excluded .end)) q)
     where
-      go : (i o : Bool) → (i || o) ≡ false → ((not i && not o) || (srvId text && not (liesIn outside text) && (not i || liesIn inside text))) ≡ true
+      go : (i o : Bool) → (i || o) ≡ false → ((not i && not o) || (formOf kind .id text && not (reached text) && (not i || within text))) ≡ true
       go false false d = refl
       go true o d = let z : _≡_ {A = ℕ} 0 1 = cc in absurd (omega arith)
       go false true d = let z : _≡_ {A = ℕ} 0 1 = cc in absurd (omega arith)
 
-  module _ (any : restricting r ≡ true) (text : List ℕ) (id : Bool) (id-is : id ≡ srvId text) where
+  module _ (any-there : restricting r ≡ true) (text : List ℕ) (id : Bool) (id-is : id ≡ formOf kind .id text) where
     -- with them, the three conditions decide
-    allowed-is : allowed names text ≡ (id && not (liesIn outside text) && (not (ltb (r .permitted .start) (r .permitted .end)) || liesIn inside text))
+    allowed-is : allowed (formOf kind) names text ≡ (id && not (reached text) && (not (ltb (r .permitted .start) (r .permitted .end)) || within text))
     unfolding restricting allowed
-    allowed-is = rw (w .permits, w .excludes, id-is) (go (ltb (r .permitted .start) (r .permitted .end)) (ltb (r .excluded .start) (r .excluded .end)) any)
+    allowed-is =
+        rw (w .inside .any-there, w .outside .any-there, id-is)
+        (go (ltb (r .permitted .start) (r .permitted .end)) (ltb (r .excluded .start) (r .excluded .end)) any-there)
       where
         go : (i o : Bool) → (i || o) ≡ true
-            → ((not i && not o) || (srvId text && not (liesIn outside text) && (not i || liesIn inside text)))
-            ≡ (srvId text && not (liesIn outside text) && (not i || liesIn inside text))
+            → ((not i && not o) || (formOf kind .id text && not (reached text) && (not i || within text)))
+            ≡ (formOf kind .id text && not (reached text) && (not i || within text))
         go true o d = refl
         go false true d = refl
         go false false d = let z : _≡_ {A = ℕ} 0 1 = cc in absurd (omega arith)
 
     -- "must be an SRV-ID"
-    pub allowed-no-id : id ≡ false → false ≡ allowed names text
+    pub allowed-no-id : id ≡ false → false ≡ allowed (formOf kind) names text
     allowed-no-id e = rw (allowed-is, e)
 
-    module _ (yes-id : id ≡ true) (out : Bool) (out-is : out ≡ liesIn (textsIn s (r .excluded .start) (r .excluded .end)) text) where
-      out-says : out ≡ liesIn outside text
-      out-says = rw (w .both .outside .texts) at out-is
+    pub known-id : id ≡ true → formOf kind .id text ≡ true
+    known-id e = rw (← id-is, e)
+
+    module _ (yes-id : id ≡ true) (out : Bool)
+        (out-is : out ≡ meetsAny kind true (textsIn (formOf kind) s (r .excluded .start) (r .excluded .end)) text) where
+      out-says : out ≡ reached text
+      unfolding meetsAny meeting
+      out-says = rw (w .outside .texts) at out-is
 
       -- "lie in no excluded SRVName subtree"
-      pub allowed-excluded : out ≡ true → false ≡ allowed names text
+      pub allowed-excluded : out ≡ true → false ≡ allowed (formOf kind) names text
       allowed-excluded e = rw (allowed-is, yes-id, ← out-says, e)
 
       -- "and, if any permitted SRVName subtree exists, lie in one"
-      pub allowed-free : out ≡ false → r .permitted .end ≤ r .permitted .start → true ≡ allowed names text
+      pub allowed-free : out ≡ false → r .permitted .end ≤ r .permitted .start → true ≡ allowed (formOf kind) names text
       allowed-free e h = rw (allowed-is, yes-id, ← out-says, e, le-ltb _ _ h)
 
       pub allowed-permitted : out ≡ false → r .permitted .start < r .permitted .end
-          → (b : Bool) → b ≡ liesIn (textsIn s (r .permitted .start) (r .permitted .end)) text → b ≡ allowed names text
-      allowed-permitted e h b b-is = b-is ∙ rw (allowed-is, yes-id, ← out-says, e, lt-ltb _ _ h, w .both .inside .texts)
+          → (b : Bool) → b ≡ meetsAny kind false (textsIn (formOf kind) s (r .permitted .start) (r .permitted .end)) text
+          → b ≡ allowed (formOf kind) names text
+      unfolding meetsAny meeting
+      allowed-permitted e h b b-is = (rw (w .inside .texts) at b-is) ∙ rw (allowed-is, yes-id, ← out-says, e, lt-ltb _ _ h)
 
 pub ruleset laws = (
   permitted-subtrees,
   excluded-subtrees,
-  srv-sides,
+  form-sides,
   restricts-permitted,
   restricts-excluded,
+  permitted-run,
+  excluded-run,
+  known-id,
   allowed-no-id,
   allowed-excluded,
   allowed-free,

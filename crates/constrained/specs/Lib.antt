@@ -1,3 +1,3 @@
--- The SRVName subtrees of constraints and the entries of a SAN, as places in strings that have been validated.
+-- What the functions of this crate answer.
 pub mod Subtrees
-pub mod Broken
+pub mod Breaches

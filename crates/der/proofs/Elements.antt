@@ -9,7 +9,7 @@ use native.Mathlib.Numerals.{add-one, add-two, add-three, add-four}
 use lib.ListN.{length, getD, take, drop, length-drop}
 use lib.Seq.{slice, slice-cons, length-slice, length-take-le}
 use lib.Dec.{ltb, leb, eqb}
-use borrow.Author.Tests.{lt-ltb, le-ltb, le-leb, lt-leb, leb-true, leb-false, eq-eqb, ne-eqb}
+use borrow.Author.Tests.{lt-ltb, le-ltb, le-leb, lt-leb, ltb-true, ltb-false, leb-true, leb-false, eq-eqb, ne-eqb}
 use Rattle.octets.proofs.Cases.{by-cases}
 use denote.Enum.Declared
 use types.Run
@@ -168,6 +168,12 @@ module _ (s : List ℕ) (at end : ℕ) (e : Element) (e-is : e ≡ elementAt s a
   value-good t b n f q = rw (← e-is, f, ne-eqb (t % 32) 31 q)
 
 -- ---- an element that is there
+
+-- it has a tag and a length
+pub found-room : (s : List ℕ) (at end : ℕ) → at ≤ end → end ≤ length s → found? (elementAt s at end) ≡ true → at + 2 ≤ end
+found-room s at end h fits there =
+    by-cases (ltb (end - at) 2) (λ e. absurd (true≢false (sym there ∙ ap found? (sym (element-none s end fits at h (ltb-true (end - at) 2 e))))))
+    (λ e. omega (arith, ltb-false (end - at) 2 e))
 
 module _ (s : List ℕ) (at end : ℕ) (h : at + 2 ≤ end) (fits : end ≤ length s) (there : found? (elementAt s at end) ≡ true) where
   -- in short form

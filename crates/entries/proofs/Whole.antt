@@ -89,6 +89,14 @@ tag-other (other o t c) g e k = k o t c refl
 
 -- ---- a name that fills a part
 
+-- it has a tag and a length
+pub whole-room : (s : List ℕ) (at end : ℕ) → at ≤ end → end ≤ length s → isSome (wholeAt s at end) ≡ true → at + 2 ≤ end
+unfolding wholeAt writeName
+whole-room s at end h fits valid =
+    some-of (wholeAt s at end) valid λ m p.
+    let e = aloneC nameC .sound (slice at end s) p .1 in
+    omega (arith, sym (length-slice at end s fits) ∙ ap length e ∙ element-length (tagOf m) (contentOf m), header-least (contentOf m))
+
 module _ (s : List ℕ) (at end : ℕ) (h : at + 2 ≤ end) (fits : end ≤ length s) where
   from : (i : ℕ) → i < end → slice i end s ≡ getD s i 0 ∷ slice (suc i) end s
   from i k = slice-cons i end s 0 k fits

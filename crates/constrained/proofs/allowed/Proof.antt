@@ -4,27 +4,39 @@ use Rattle.constrained.proofs.allowed.Statement.{statement}
 use Rattle.constrained.proofs.allowed.Tie as tie
 use Rattle.constrained.proofs.allowed.Reads as reads
 use Rattle.constrained.proofs.allowed.Lts as lts
-use Rattle.constrained.proofs.lies_in.Reads as lies-in-reads
-use Rattle.srv.proofs.srv_id.Reads as srv-id-reads
+use Rattle.constrained.proofs.is_id.Reads as is-id-reads
+use Rattle.constrained.proofs.meets_any.Reads as meets-any-reads
+use Rattle.octets.proofs.find.Reads as find-reads
 
-srv-id-requires : tie.Need-srv-id-requires
-srv-id-requires c κs = search needs
+-- src/lib.rt:267:9
+is-id-requires : tie.Need-is-id-requires
+is-id-requires c κs = search needs
 
-lies-in-requires : tie.Need-lies-in-requires
-lies-in-requires c κs = search needs
+-- src/lib.rt:269:13
+find-requires : tie.Need-find-requires
+find-requires c κs = search needs
 
+-- src/lib.rt:271:13
+meets-any-requires : tie.Need-meets-any-requires
+meets-any-requires c κs = search (needs, laws)
+
+-- src/lib.rt:273:13
 returns : tie.Need-returns
 returns c = search (needs, laws)
 
-lies-in-requires-2 : tie.Need-lies-in-requires-2
-lies-in-requires-2 c κs = search needs
+-- src/lib.rt:277:13
+meets-any-requires-2 : tie.Need-meets-any-requires-2
+meets-any-requires-2 c κs = search (needs, laws)
 
+-- src/lib.rt:277:13
 returns-2 : tie.Need-returns-2
 returns-2 c = search (needs, laws)
 
+-- src/lib.rt:279:9
 returns-3 : tie.Need-returns-3
 returns-3 c = search (needs, laws)
 
+-- src/lib.rt:262:1
 returns-4 : tie.Need-returns-4
 returns-4 c = search (needs, laws)
 
@@ -32,10 +44,11 @@ pub allowed-spec : {M : Type 1} → statement M
 allowed-spec =
     tie.close
     (tie.spec
-    srv-id-requires
-    lies-in-requires
+    is-id-requires
+    find-requires
+    meets-any-requires
     returns
-    lies-in-requires-2
+    meets-any-requires-2
     returns-2
     returns-3
     returns-4)

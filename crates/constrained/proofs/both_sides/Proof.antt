@@ -7,18 +7,23 @@ use Rattle.constrained.proofs.both_sides.Lts as lts
 use Rattle.constrained.proofs.sides_from.Reads as sides-from-reads
 use Rattle.der.proofs.read_element.Reads as read-element-reads
 
+-- src/lib.rt:209:9
 read-element-requires : tie.Need-read-element-requires
 read-element-requires c κs = search needs
 
+-- src/lib.rt:212:9
 enum-known-e : tie.Need-enum-known-e
 enum-known-e c = search needs
 
+-- src/lib.rt:217:9
 returns : tie.Need-returns
 returns c = search (needs, laws)
 
+-- src/lib.rt:222:5
 sides-from-requires : tie.Need-sides-from-requires
 sides-from-requires c κs = search (needs, laws)
 
+-- src/lib.rt:204:1
 returns-2 : tie.Need-returns-2
 returns-2 c = search needs
 

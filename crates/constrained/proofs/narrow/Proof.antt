@@ -1,49 +1,56 @@
 use Prim.Native.Nat.{_-_}
 use Rattle.reading.specs.Strings.{readSubtree}
 use Rattle.der.specs.Runs.{Run}
+use Rattle.entries.specs.Entries.{formOf}
 use Rattle.constrained.proofs.Parts.{SameTexts}
 use borrow.Author.Needs.{needs}
 use Rattle.constrained.proofs.Parts.{laws}
-use Rattle.constrained.proofs.Step.{steps}
+use Rattle.constrained.proofs.Step.{steps, names}
 use Rattle.constrained.proofs.narrow.Statement.{statement}
 use Rattle.constrained.proofs.narrow.Tie as tie
 use Rattle.constrained.proofs.narrow.Reads as reads
 use Rattle.constrained.proofs.narrow.Lts as lts
-use Rattle.constrained.proofs.is_srv.Reads as is-srv-reads
-use Rattle.der.proofs.read_element.Reads as read-element-reads
+use Rattle.der.proofs.content_start.Reads as content-start-reads
+use Rattle.der.proofs.element_end.Reads as element-end-reads
+use Rattle.entries.proofs.name_text.Reads as name-text-reads
 
 abbrev Inv-loop : tie.InvT-loop
-Inv-loop s start end at₀ at = Run readSubtree s at end × SameTexts s start end at
+Inv-loop s start end kind at₀ at = Run readSubtree s at end × SameTexts (formOf kind) s start end at
 
 abbrev μ-loop : tie.MeasureT-loop
-μ-loop s start end at₀ at = end - at
+μ-loop s start end kind at₀ at = end - at
 
+-- src/lib.rt:135:5
 loop-holds : tie.Need-loop-holds Inv-loop μ-loop
-loop-holds c = search (needs, steps, laws)
+loop-holds c = search (needs, steps, names, laws)
 
-read-element-requires : tie.Need-read-element-requires Inv-loop μ-loop
-read-element-requires c κs = search (needs, steps, laws)
+-- src/lib.rt:136:13
+element-end-requires : tie.Need-element-end-requires Inv-loop μ-loop
+element-end-requires c κs = search (needs, steps, names, laws)
 
-enum-known-e : tie.Need-enum-known-e Inv-loop μ-loop
-enum-known-e c = search (needs, steps, laws)
+-- src/lib.rt:137:13
+content-start-requires : tie.Need-content-start-requires Inv-loop μ-loop
+content-start-requires c κs = search (needs, steps, names, laws)
 
+-- src/lib.rt:138:13
+name-text-requires : tie.Need-name-text-requires Inv-loop μ-loop
+name-text-requires c κs = search (needs, steps, names, laws)
+
+-- src/lib.rt:140:13
 returns : tie.Need-returns Inv-loop μ-loop
-returns c = search (needs, steps, laws)
+returns c = search (needs, steps, names, laws)
 
-is-srv-requires : tie.Need-is-srv-requires Inv-loop μ-loop
-is-srv-requires c κs = search (needs, steps, laws)
-
-returns-2 : tie.Need-returns-2 Inv-loop μ-loop
-returns-2 c = search (needs, steps, laws)
-
+-- src/lib.rt:135:5
 loop-less : tie.Need-loop-less Inv-loop μ-loop
-loop-less c = search (needs, steps, laws)
+loop-less c = search (needs, steps, names, laws)
 
+-- src/lib.rt:135:5
 loop-again : tie.Need-loop-again Inv-loop μ-loop
-loop-again c = search (needs, steps, laws)
+loop-again c = search (needs, steps, names, laws)
 
-returns-3 : tie.Need-returns-3 Inv-loop μ-loop
-returns-3 c = search (needs, steps, laws)
+-- src/lib.rt:130:1
+returns-2 : tie.Need-returns-2 Inv-loop μ-loop
+returns-2 c = search (needs, steps, names, laws)
 
 pub narrow-spec : {M : Type 1} → statement M
 narrow-spec =
@@ -52,11 +59,10 @@ narrow-spec =
     Inv-loop
     μ-loop
     loop-holds
-    read-element-requires
-    enum-known-e
+    element-end-requires
+    content-start-requires
+    name-text-requires
     returns
-    is-srv-requires
-    returns-2
     loop-less
     loop-again
-    returns-3)
+    returns-2)

@@ -5,9 +5,11 @@ use Rattle.constrained.proofs.restricts.Tie as tie
 use Rattle.constrained.proofs.restricts.Reads as reads
 use Rattle.constrained.proofs.restricts.Lts as lts
 
+-- src/lib.rt:254:9
 returns : tie.Need-returns
 returns c = search (needs, laws)
 
+-- src/lib.rt:249:1
 returns-2 : tie.Need-returns-2
 returns-2 c = search (needs, laws)
 
