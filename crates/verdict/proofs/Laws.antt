@@ -3,16 +3,19 @@ use Prim.Native.Nat.{ℕ, zero, suc, _+_, _-_, _≤_, _<_}
 use mathlib.Core.Path.{_≡_, refl, sym, ap, _∙_}
 use mathlib.Core.Bool.{Bool, true, false, cond, not, _&&_, _||_}
 use mathlib.Core.Option.{Option, none, some, Option·getD}
-use mathlib.Core.List.{List, [], _∷_}
+use mathlib.Core.List.{List, [], _∷_, map}
 use native.Mathlib.Omega.{arith}
 use native.Mathlib.Nat.{add-sub-cancel-left}
-use lib.ListN.{length, take, drop}
+use native.Mathlib.Numerals.{add-one}
+use lib.ListN.{length, take, drop, getD, drop-of-length-le}
+use lib.Seq.{drop-cons}
 use lib.Dec.{T, ltb}
 use borrow.Author.Tests.{lt-ltb, le-ltb, not-true, not-false}
-use Rattle.rules.specs.Bytes.{part, some?}
+use Rattle.rules.specs.Bytes.{part, some?, all, any}
 use Rattle.rules.specs.Numbers.{sanLimit, subjectLimit, constraintsLimit, recordsLimit}
 use Rattle.rules.specs.Records.{goodRecords, referencesOf}
-use Rattle.rules.specs.Matching.{Pair, firstPair, firstBroken}
+use Rattle.rules.specs.Seen.{lengthsFit}
+use Rattle.rules.specs.Matching.{Pair, firstPair, firstBreach}
 use Rattle.rules.specs.Verdict.{past, witnessPart, witnessText, witnessPlace, witnessOf, matchedOr, brokenOr, judged, numbers, numbersOf}
 use Rattle.rules.specs.declared.Verdict.{Verdict}
 use Rattle.rules.specs.declared.Place.{Place}
@@ -28,33 +31,62 @@ use Rattle.strings.specs.declared.Count.{Count}
 use Rattle.strings.specs.declared.Count.the-variants.{Of, Unreadable}
 use Rattle.der.specs.Runs as runs
 use Rattle.der.specs.Runs.{validated, namesOf}
-use Rattle.constrained.specs.Broken.{brokenAt}
-use Rattle.constrained.specs.declared.Broken as broken
-use Rattle.constrained.specs.declared.Broken.the-variants.{At, Nothing}
+use Rattle.constrained.specs.Breaches.{breachOf}
+use Rattle.constrained.specs.declared.Breached as breached
+use Rattle.constrained.specs.declared.Breached.the-variants.{At, Nothing}
+use Rattle.issuers.specs.Strings.{stringsIn, stringAt, fit-count}
 use Rattle.pairs.specs.Pairs.{Fits, OutcomeFits}
-use Rattle.verdict.specs.Judging.{anyLong, subjectRead, refusalOf, SmallWitness, Small, SmallNumbers, SmallPlace}
-use Rattle.verdict.proofs.Refusing.{whole, AllRead, sizes-fit, refused-is, all-read, judged-is}
+use Rattle.verdict.specs.Judging.{constraintsLong, anyLong, subjectRead, constraintsRead, refusalOf, SmallWitness, Small, SmallNumbers, SmallPlace}
+use Rattle.verdict.proofs.Refusing.{whole, AllRead, sizes-fit, lengths-fit, refused-is, all-read, judged-is}
 
 -- ---- any_long
 
-module _ (R S J C : List ℕ) where
-  pub long-records : recordsLimit < length R → true ≡ anyLong R S J C
+module _ (R S J C L : List ℕ) where
+  pub long-records : recordsLimit < length R → true ≡ anyLong R S J C L
   unfolding anyLong
   long-records h = simp (lt-ltb recordsLimit (length R) h)
 
   module _ (r : length R ≤ recordsLimit) where
-    pub long-san : sanLimit < length S → true ≡ anyLong R S J C
+    pub long-san : sanLimit < length S → true ≡ anyLong R S J C L
     unfolding anyLong
     long-san h = simp (le-ltb recordsLimit (length R) r, lt-ltb sanLimit (length S) h)
 
     module _ (s : length S ≤ sanLimit) where
-      pub long-subject : subjectLimit < length J → true ≡ anyLong R S J C
+      pub long-subject : subjectLimit < length J → true ≡ anyLong R S J C L
       unfolding anyLong
       long-subject h = simp (le-ltb recordsLimit (length R) r, le-ltb sanLimit (length S) s, lt-ltb subjectLimit (length J) h)
 
-      pub long-constraints : length J ≤ subjectLimit → ltb constraintsLimit (length C) ≡ anyLong R S J C
+      pub long-constraints : length J ≤ subjectLimit → (t : Bool) → t ≡ constraintsLong L (length C) → t ≡ anyLong R S J C L
       unfolding anyLong
-      long-constraints h = simp (le-ltb recordsLimit (length R) r, le-ltb sanLimit (length S) s, le-ltb subjectLimit (length J) h)
+      long-constraints h t e = e ∙ simp (le-ltb recordsLimit (length R) r, le-ltb sanLimit (length S) s, le-ltb subjectLimit (length J) h)
+
+-- ---- constraints_long
+
+-- the lengths from i on hold one past the limit exactly where all do
+unfoldable pub LongLeft : List ℕ → ℕ → Type 0
+LongLeft lengths i = any (ltb constraintsLimit) (drop i lengths) ≡ any (ltb constraintsLimit) lengths
+
+module _ (lengths : List ℕ) (size : ℕ) (fit : Bool) (is-fit : fit ≡ lengthsFit lengths size) where
+  pub lengths-wrong : not fit ≡ true → true ≡ constraintsLong lengths size
+  unfolding constraintsLong
+  lengths-wrong e = rw (← is-fit, e)
+
+  pub lengths-begin : LongLeft lengths 0
+  unfolding LongLeft
+  lengths-begin = refl
+
+  module _ (e : not fit ≡ false) (i : ℕ) (inv : LongLeft lengths i) where
+    pub lengths-here : i < length lengths → constraintsLimit < getD lengths i 0 → true ≡ constraintsLong lengths size
+    unfolding constraintsLong LongLeft
+    lengths-here h k = rw (← is-fit, e) (rw (drop-cons lengths i 0 h, lt-ltb constraintsLimit (getD lengths i 0) k) at inv)
+
+    pub lengths-next : i < length lengths → getD lengths i 0 ≤ constraintsLimit → LongLeft lengths (i + 1)
+    unfolding LongLeft
+    lengths-next h k = rw add-one (rw (drop-cons lengths i 0 h, le-ltb constraintsLimit (getD lengths i 0) k) at inv)
+
+    pub lengths-end : length lengths ≤ i → false ≡ constraintsLong lengths size
+    unfolding constraintsLong LongLeft
+    lengths-end h = rw (← is-fit, e) (rw (drop-of-length-le lengths {i = i} h) at inv)
 
 -- ---- readable or not
 
@@ -98,40 +130,72 @@ module _ (s : List ℕ) (c : Count) (e : c ≡ placeCount (readSubject s)) where
   unfolding subjectRead
   subject-not f = uncounted readSubject s c e f
 
+-- ---- constraints_read
+
+-- the strings from i on are all read exactly where all strings are
+unfoldable pub ReadLeft : List ℕ → List ℕ → ℕ → Type 0
+ReadLeft C L i = all (validated readConstraints) (drop i (stringsIn L C)) ≡ constraintsRead C L
+
+module _ (C L : List ℕ) where
+  pub read-begin : ReadLeft C L 0
+  unfolding ReadLeft constraintsRead
+  read-begin = refl
+
+  module _ (fit : lengthsFit L (length C) ≡ true) (i : ℕ) (inv : ReadLeft C L i) where
+    pub read-end : length L ≤ i → true ≡ constraintsRead C L
+    unfolding ReadLeft
+    read-end h = rw (drop-of-length-le (stringsIn L C) {i = i} (rw (fit-count L C fit) h)) at inv
+
+    module _ (h : i < length L) (s : List ℕ) (s-is : s ≡ stringAt L C i) (r : Bool) (r-is : r ≡ validated readConstraints s) where
+      first-read : (r && all (validated readConstraints) (drop (suc i) (stringsIn L C))) ≡ constraintsRead C L
+      unfolding ReadLeft stringAt
+      first-read = rw (r-is, s-is) (rw (drop-cons (stringsIn L C) i [] (rw (fit-count L C fit) h)) at inv)
+
+      pub read-not : not r ≡ true → false ≡ constraintsRead C L
+      read-not e = rw (not-true r e) at first-read
+
+      pub read-next : not r ≡ false → ReadLeft C L (i + 1)
+      unfolding ReadLeft
+      read-next e = rw add-one (rw (not-false r e) at first-read)
+
 -- ---- refusal
 
-module _ (R S J C : List ℕ) (t : Bool) (t-is : t ≡ anyLong R S J C) where
-  pub ref-long : t ≡ true → 7 ≡ refusalOf R S J C
+module _ (R S J C L : List ℕ) (t : Bool) (t-is : t ≡ anyLong R S J C L) where
+  pub ref-long : t ≡ true → 7 ≡ refusalOf R S J C L
   unfolding refusalOf
   ref-long h = simp (← t-is, h)
 
+  module _ (t-not : t ≡ false) where
+    pub asks-fit : lengthsFit L (length C) ≡ true
+    asks-fit = lengths-fit R S J C L (sym t-is ∙ t-not)
+
   module _ (t-not : t ≡ false) (g : Bool) (g-is : g ≡ goodRecords R) where
-    pub ref-records : not g ≡ true → 6 ≡ refusalOf R S J C
+    pub ref-records : not g ≡ true → 6 ≡ refusalOf R S J C L
     unfolding refusalOf
     ref-records h = simp (← t-is, t-not, ← g-is, h)
 
     module _ (good : not g ≡ false) (a : Bool) (a-is : a ≡ validated readSan S) where
-      pub ref-san : not a ≡ true → 3 ≡ refusalOf R S J C
+      pub ref-san : not a ≡ true → 3 ≡ refusalOf R S J C L
       unfolding refusalOf
       ref-san h = simp (← t-is, t-not, ← g-is, good, ← a-is, h)
 
       module _ (san : not a ≡ false) (b : Bool) (b-is : b ≡ subjectRead J) where
-        pub ref-subject : not b ≡ true → 4 ≡ refusalOf R S J C
+        pub ref-subject : not b ≡ true → 4 ≡ refusalOf R S J C L
         unfolding refusalOf
         ref-subject h = simp (← t-is, t-not, ← g-is, good, ← a-is, san, ← b-is, h)
 
-        module _ (subject : not b ≡ false) (c : Bool) (c-is : c ≡ validated readConstraints C) where
-          pub ref-constraints : not c ≡ true → 5 ≡ refusalOf R S J C
+        module _ (subject : not b ≡ false) (c : Bool) (c-is : c ≡ constraintsRead C L) where
+          pub ref-constraints : not c ≡ true → 5 ≡ refusalOf R S J C L
           unfolding refusalOf
           ref-constraints h = simp (← t-is, t-not, ← g-is, good, ← a-is, san, ← b-is, subject, ← c-is, h)
 
-          pub ref-none : not c ≡ false → 0 ≡ refusalOf R S J C
+          pub ref-none : not c ≡ false → 0 ≡ refusalOf R S J C L
           unfolding refusalOf
           ref-none h = simp (← t-is, t-not, ← g-is, good, ← a-is, san, ← b-is, subject, ← c-is, h)
 
-pub refusal-small : (R S J C : List ℕ) (n : ℕ) → n ≡ refusalOf R S J C → n ≤ 7
+pub refusal-small : (R S J C L : List ℕ) (n : ℕ) → n ≡ refusalOf R S J C L → n ≤ 7
 unfolding refusalOf
-refusal-small R S J C n e = rw e (go (anyLong R S J C) (not (goodRecords R)) (not (validated readSan S)) (not (subjectRead J)) (not (validated readConstraints C)))
+refusal-small R S J C L n e = rw e (go (anyLong R S J C L) (not (goodRecords R)) (not (validated readSan S)) (not (subjectRead J)) (not (constraintsRead C L)))
   where
     go : (t g a b c : Bool) → cond t 7 (cond g 6 (cond a 3 (cond b 4 (cond c 5 0)))) ≤ 7
     go true g a b c = omega arith
@@ -166,22 +230,23 @@ small-outcome R S J h (some p) f =
       text-fits = f .text-fits;
     }
 
-module _ (R S J C : List ℕ) (n : ℕ) (n-is : n ≡ refusalOf R S J C) where
-  pub out-refused : (n ≡ 0 → ⊥) → Refused n ≡ whole R S J C
-  out-refused h = refused-is R S J C n n-is h
+module _ (R S J C L : List ℕ) (n : ℕ) (n-is : n ≡ refusalOf R S J C L) where
+  pub out-refused : (n ≡ 0 → ⊥) → Refused n ≡ whole R S J C L
+  out-refused h = refused-is R S J C L n n-is h
 
   pub refused-small : Small S J (Refused n)
   unfolding Small
-  refused-small = omega (arith, refusal-small R S J C n n-is)
+  refused-small = omega (arith, refusal-small R S J C L n n-is)
 
   module _ (zero-is : n ≡ 0) where
-    read : AllRead R S J C
-    read = all-read R S J C n n-is zero-is
+    read : AllRead R S J C L
+    read = all-read R S J C L n n-is zero-is
 
     pub asks-san : validated readSan S ≡ true
     asks-san = read .san
 
-    pub asks-constraints : validated readConstraints C ≡ true
+    pub asks-constraints : all (validated readConstraints) (stringsIn L C) ≡ true
+    unfolding constraintsRead
     asks-constraints = read .constraints
 
     pub asks-records : goodRecords R ≡ true
@@ -191,52 +256,54 @@ module _ (R S J C : List ℕ) (n : ℕ) (n-is : n ≡ refusalOf R S J C) where
     unfolding subjectRead
     asks-subject = runs.read-valid readSubject J (read .subject)
 
-    module _ (b : broken.Broken) (b-is : b ≡ brokenAt (firstBroken 0 (namesOf readConstraints C) (namesOf readSan S))) where
-      judged-broken : (o : Option ℕ) (x : Outcome) (i : ℕ) → brokenAt o ≡ At i → brokenOr o x ≡ Broken (record { presented = i })
-      unfolding brokenAt
+    module _ (b : breached.Breached)
+        (b-is : b ≡ breachOf (firstBreach 0 (map (namesOf readConstraints) (stringsIn L C)) (namesOf readSan S))) where
+      judged-broken : (o : Option Breach) (x : Outcome) (i : Breach) → breachOf o ≡ At i → brokenOr o x ≡ Broken i
+      unfolding breachOf
       judged-broken none x i e = let z : _≡_ {A = ℕ} 0 1 = cc in absurd (omega arith)
-      judged-broken (some k) x i e = cc
+      judged-broken (some k) x i e = let f : k ≡ i = cc in ap Broken f
 
-      judged-whole : (o : Option ℕ) (x : Outcome) → brokenAt o ≡ Nothing → brokenOr o x ≡ x
-      unfolding brokenAt
+      judged-whole : (o : Option Breach) (x : Outcome) → breachOf o ≡ Nothing → brokenOr o x ≡ x
+      unfolding breachOf
       judged-whole none x e = refl
       judged-whole (some k) x e = let z : _≡_ {A = ℕ} 0 1 = cc in absurd (omega arith)
 
-      module _ (i : ℕ) (e : b ≡ At i) where
-        pub out-broken : Broken (record { presented = i }) ≡ whole R S J C
+      module _ (i : Breach) (e : b ≡ At i) where
+        pub out-broken : Broken i ≡ whole R S J C L
         unfolding judged
-        out-broken = sym (judged-is R S J C n n-is zero-is ∙ judged-broken _ _ i (sym b-is ∙ e))
+        out-broken = sym (judged-is R S J C L n n-is zero-is ∙ judged-broken _ _ i (sym b-is ∙ e))
 
-        pub broken-small : ((k : ℕ) → b ≡ At k → k ≤ length S) → Small S J (Broken (record { presented = i }))
+        pub broken-small : ((k : Breach) → b ≡ At k → (k .issuer ≤ 8) × (k .presented ≤ length S)) → Small S J (Broken i)
         unfolding Small
-        broken-small small = omega (arith, small i e, sizes-fit R S J C (read .short))
+        broken-small small =
+            (omega (arith, small i e .0), omega (arith, small i e .1, sizes-fit R S J C L (read .short) .1))
 
       module _ (e : b ≡ Nothing) (o : Outcome) (o-is : o ≡ matchedOr (firstPair 0 (referencesOf R) (namesOf readSan S) (namesOf readSubject J))) where
-        pub out-pair : o ≡ whole R S J C
+        pub out-pair : o ≡ whole R S J C L
         unfolding judged
-        out-pair = o-is ∙ sym (judged-is R S J C n n-is zero-is ∙ judged-whole _ _ (sym b-is ∙ e))
+        out-pair = o-is ∙ sym (judged-is R S J C L n n-is zero-is ∙ judged-whole _ _ (sym b-is ∙ e))
 
         pub pair-small : OutcomeFits R S J o → Small S J o
         pair-small fits =
             rw o-is
-            (small-outcome R S J (sizes-fit R S J C (read .short)) (firstPair 0 (referencesOf R) (namesOf readSan S) (namesOf readSubject J)) (rw o-is at fits))
+            (small-outcome R S J (sizes-fit R S J C L (read .short)) (firstPair 0 (referencesOf R) (namesOf readSan S) (namesOf readSubject J)) (rw o-is at fits))
 
 -- ---- numbers
 
 module _ (o : Outcome) where
-  pub num-refused : (v : Verdict) (n : ℕ) → o ≡ Refused n → v ≡ numbers n 0 0 0 0 → v ≡ numbersOf o
+  pub num-refused : (v : Verdict) (n : ℕ) → o ≡ Refused n → v ≡ numbers n 0 0 0 0 0 → v ≡ numbersOf o
   unfolding numbersOf
   num-refused v n e f = f ∙ rw e
 
-  pub num-broken : (v : Verdict) (b : Breach) → o ≡ Broken b → v ≡ numbers 2 0 (b .presented) 0 0 → v ≡ numbersOf o
+  pub num-broken : (v : Verdict) (b : Breach) → o ≡ Broken b → v ≡ numbers 2 0 (b .presented) 0 0 (b .issuer) → v ≡ numbersOf o
   unfolding numbersOf
   num-broken v b e f = f ∙ rw e
 
-  pub num-matched : (v : Verdict) (w : Witness) → o ≡ Matched w → v ≡ numbers 0 (w .reference) (w .presented) (w .element .start) (w .element .length) → v ≡ numbersOf o
+  pub num-matched : (v : Verdict) (w : Witness) → o ≡ Matched w → v ≡ numbers 0 (w .reference) (w .presented) (w .element .start) (w .element .length) 0 → v ≡ numbersOf o
   unfolding numbersOf
   num-matched v w e f = f ∙ rw e
 
-  pub num-mismatched : (v : Verdict) → o ≡ Mismatched → v ≡ numbers 1 0 0 0 0 → v ≡ numbersOf o
+  pub num-mismatched : (v : Verdict) → o ≡ Mismatched → v ≡ numbers 1 0 0 0 0 0 → v ≡ numbersOf o
   unfolding numbersOf
   num-mismatched v e f = f ∙ rw e
 
@@ -248,13 +315,15 @@ numbers-small-of S J (Refused n) q = record {
   presented-small = omega arith;
   start-small = omega arith;
   length-small = omega arith;
+  issuer-small = omega arith;
 }
 numbers-small-of S J (Broken b) q = record {
   answer-small = omega arith;
   reference-small = omega arith;
-  presented-small = q;
+  presented-small = q .1;
   start-small = omega arith;
   length-small = omega arith;
+  issuer-small = q .0;
 }
 numbers-small-of S J (Matched w) q = record {
   answer-small = omega arith;
@@ -262,6 +331,7 @@ numbers-small-of S J (Matched w) q = record {
   presented-small = q .presented-small;
   start-small = q .start-small;
   length-small = q .length-small;
+  issuer-small = omega arith;
 }
 numbers-small-of S J Mismatched q = record {
   answer-small = omega arith;
@@ -269,10 +339,11 @@ numbers-small-of S J Mismatched q = record {
   presented-small = omega arith;
   start-small = omega arith;
   length-small = omega arith;
+  issuer-small = omega arith;
 }
 
-module _ (R S J C : List ℕ) (o : Outcome) (v : Verdict) (v-is : v ≡ numbersOf o) where
-  pub verdict-is : o ≡ whole R S J C → v ≡ verdictOn (inputs S J C R)
+module _ (R S J C L : List ℕ) (o : Outcome) (v : Verdict) (v-is : v ≡ numbersOf o) where
+  pub verdict-is : o ≡ whole R S J C L → v ≡ verdictOn (inputs S J C (some L) R)
   unfolding verdictOn
   verdict-is e = v-is ∙ ap numbersOf e
 
@@ -305,8 +376,8 @@ part-small-of S J (Broken b) q = record { start-small = omega arith; length-smal
 part-small-of S J (Matched w) q = record { start-small = omega (arith, q .text-small); length-small = omega (arith, q .text-small) }
 part-small-of S J Mismatched q = record { start-small = omega arith; length-small = omega arith }
 
-module _ (R S J C : List ℕ) (o : Outcome) (p : Place) (p-is : p ≡ witnessPart o) where
-  pub place-is : o ≡ whole R S J C → p ≡ witnessPartOn (inputs S J C R)
+module _ (R S J C L : List ℕ) (o : Outcome) (p : Place) (p-is : p ≡ witnessPart o) where
+  pub place-is : o ≡ whole R S J C L → p ≡ witnessPartOn (inputs S J C (some L) R)
   unfolding witnessPartOn
   place-is e = p-is ∙ ap witnessPart e
 
@@ -375,12 +446,12 @@ module _ (o : Outcome) (p q : ℕ × ℕ) where
   pub at-matched : (w : Witness) → o ≡ Matched w → (t : ℕ × ℕ) → t ≡ witnessPlace p q (Matched w) → t ≡ witnessPlace p q o
   at-matched w e t f = f ∙ rw e
 
-module _ (R S J C : List ℕ) (o : Outcome) (o-is : o ≡ whole R S J C) where
-  pub witness-bytes : (t : List ℕ) → t ≡ witnessText S J o → t ≡ witnessTextOn (inputs S J C R)
+module _ (R S J C L : List ℕ) (o : Outcome) (o-is : o ≡ whole R S J C L) where
+  pub witness-bytes : (t : List ℕ) → t ≡ witnessText S J o → t ≡ witnessTextOn (inputs S J C (some L) R)
   unfolding witnessTextOn
   witness-bytes t e = e ∙ ap (witnessText S J) o-is
 
-  pub witness-place : (p q t : ℕ × ℕ) → t ≡ witnessPlace p q o → t ≡ witnessPlaceOn (inputs S J C R) p q
+  pub witness-place : (p q t : ℕ × ℕ) → t ≡ witnessPlace p q o → t ≡ witnessPlaceOn (inputs S J C (some L) R) p q
   unfolding witnessPlaceOn
   witness-place p q t e = e ∙ ap (witnessPlace p q) o-is
 
@@ -415,6 +486,15 @@ pub ruleset laws = (
   long-san,
   long-subject,
   long-constraints,
+  lengths-wrong,
+  lengths-begin,
+  lengths-here,
+  lengths-next,
+  lengths-end,
+  read-begin,
+  read-end,
+  read-not,
+  read-next,
   valid-absent,
   valid-counted,
   valid-not,
@@ -428,6 +508,6 @@ pub ruleset laws = (
   verdict-small,
 )
 
-pub ruleset refusals = (ref-long, ref-records, ref-san, ref-subject, ref-constraints, ref-none)
+pub ruleset refusals = (asks-fit, ref-long, ref-records, ref-san, ref-subject, ref-constraints, ref-none)
 
 pub ruleset outcomes = (out-refused, refused-small, asks-san, asks-constraints, asks-records, asks-subject, out-broken, broken-small, out-pair, pair-small)

@@ -4,8 +4,10 @@ use mathlib.Core.Bool.{Bool, true, false, cond, not, _||_}
 use mathlib.Core.List.{List}
 use lib.ListN.{length}
 use lib.Dec.{T, ltb}
+use Rattle.rules.specs.Bytes.{all, any}
 use Rattle.rules.specs.Numbers.{sanLimit, subjectLimit, constraintsLimit, recordsLimit, inputTooLong, recordsUnreadable, sanUnreadable, subjectUnreadable, constraintsUnreadable}
 use Rattle.rules.specs.Records.{goodRecords}
+use Rattle.rules.specs.Seen.{lengthsFit}
 use Rattle.rules.specs.declared.Place.{Place}
 use Rattle.rules.specs.declared.Witness.{Witness}
 use Rattle.rules.specs.declared.Verdict.{Verdict}
@@ -14,26 +16,35 @@ use Rattle.rules.specs.declared.Outcome.the-variants.{Refused, Broken, Matched,
 use Rattle.reading.specs.Reader.{isSome}
 use Rattle.reading.specs.Strings.{readSan, readSubject, readConstraints}
 use Rattle.der.specs.Runs.{validated}
+use Rattle.issuers.specs.Strings.{stringsIn}
+
+-- 6/13: "a ninth, or lengths with another sum, is 7, and each keeps its own length limit"
+unfoldable pub constraintsLong : List ℕ → ℕ → Bool
+constraintsLong lengths size = not (lengthsFit lengths size) || any (ltb constraintsLimit) lengths
 
 -- "7 for any of the four inputs"
-unfoldable pub anyLong : List ℕ → List ℕ → List ℕ → List ℕ → Bool
-anyLong references san subject constraints =
+unfoldable pub anyLong : List ℕ → List ℕ → List ℕ → List ℕ → List ℕ → Bool
+anyLong references san subject constraints lengths =
     ltb recordsLimit (length references)
     || ltb sanLimit (length san)
     || ltb subjectLimit (length subject)
-    || ltb constraintsLimit (length constraints)
+    || constraintsLong lengths (length constraints)
 
 unfoldable pub subjectRead : List ℕ → Bool
 subjectRead s = isSome (readSubject s)
 
+-- the constraints of every issuer are absent or read
+unfoldable pub constraintsRead : List ℕ → List ℕ → Bool
+constraintsRead constraints lengths = all (validated readConstraints) (stringsIn lengths constraints)
+
 -- the refusal that comes first, "7 .., then 6, 3, 4, 5", or 0 where all four inputs are read
-unfoldable pub refusalOf : List ℕ → List ℕ → List ℕ → List ℕ → ℕ
-refusalOf references san subject constraints =
-    cond (anyLong references san subject constraints) inputTooLong
+unfoldable pub refusalOf : List ℕ → List ℕ → List ℕ → List ℕ → List ℕ → ℕ
+refusalOf references san subject constraints lengths =
+    cond (anyLong references san subject constraints lengths) inputTooLong
     (cond (not (goodRecords references)) recordsUnreadable
     (cond (not (validated readSan san)) sanUnreadable
     (cond (not (subjectRead subject)) subjectUnreadable
-    (cond (not (validated readConstraints constraints)) constraintsUnreadable 0))))
+    (cond (not (constraintsRead constraints lengths)) constraintsUnreadable 0))))
 
 -- the numbers of a witness: its text lies in its string, and all of them are small
 pub record SmallWitness (san subject : List ℕ) (w : Witness) : Type 0 where
@@ -46,7 +57,7 @@ pub record SmallWitness (san subject : List ℕ) (w : Witness) : Type 0 where
 
 unfoldable pub Small : List ℕ → List ℕ → Outcome → Type 0
 Small san subject (Refused n) = n ≤ sanLimit
-Small san subject (Broken b) = b .presented ≤ sanLimit
+Small san subject (Broken b) = (b .issuer ≤ sanLimit) × (b .presented ≤ sanLimit)
 Small san subject (Matched w) = SmallWitness san subject w
 Small san subject Mismatched = T true
 
@@ -56,6 +67,7 @@ pub record SmallNumbers (v : Verdict) : Type 0 where
   pub presented-small : v .presented ≤ sanLimit
   pub start-small : v .start ≤ sanLimit
   pub length-small : v .length ≤ sanLimit
+  pub issuer-small : v .issuer ≤ sanLimit
 
 pub record SmallPlace (p : Place) : Type 0 where
   pub start-small : p .start ≤ sanLimit

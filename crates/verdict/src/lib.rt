@@ -1,9 +1,10 @@
-// The verdict on a certificate: how it ends, its five numbers, and the witness's text as a part of the certificate's own bytes.
-use constrained::Broken;
-use constrained::first_broken;
+// The verdict on a certificate: how it ends, its six numbers, and the witness's text as a part of the certificate's own bytes.
+use constrained::Breached;
+use constrained::first_breach;
+use issuers::lengths_fit;
+use issuers::string_of;
 use pairs::first_pair;
 use records::good_records;
-use rules::Breach;
 use rules::CONSTRAINTS_BROKEN;
 use rules::CONSTRAINTS_LIMIT;
 use rules::CONSTRAINTS_UNREADABLE;
@@ -26,15 +27,43 @@ use strings::san_count;
 use strings::subject_count;
 ghost use Prim.Native.Nat.{_≤_};
 ghost use mathlib.Core.Path.{_≡_};
+ghost use mathlib.Core.Bool.{true};
+ghost use mathlib.Core.Option.{some};
+ghost use lib.ListN.{length};
+ghost use Rattle.rules.specs.Seen.{lengthsFit};
 ghost use Rattle.rules.specs.Verdict.{numbers, numbersOf, witnessPart, witnessText, witnessPlace};
 ghost use Rattle.reading.specs.Strings.{readSan, readConstraints};
 ghost use Rattle.reading.specs.Calls.{inputs, outcomeOn, verdictOn, witnessTextOn, witnessPartOn, witnessPlaceOn};
 ghost use Rattle.der.specs.Runs.{validated};
-ghost use Rattle.verdict.specs.Judging.{anyLong, subjectRead, refusalOf, SmallWitness, Small, SmallNumbers, SmallPlace};
+ghost use Rattle.verdict.specs.Judging.{constraintsLong, anyLong, subjectRead, constraintsRead, refusalOf, SmallWitness, Small, SmallNumbers, SmallPlace};
+
+// "a ninth, or lengths with another sum, is 7, and each keeps its own length limit"
+fn constraints_long(lengths: &[usize], size: usize) -> bool
+    ensures { λ r. ⌜ r ≡ constraintsLong (now (lengths .entry)) size ⌝ }
+{
+    let fit = lengths_fit(lengths, size);
+    if !fit {
+        return true;
+    }
+    let mut i = 0;
+    while i < lengths.len() {
+        if CONSTRAINTS_LIMIT < lengths[i] {
+            return true;
+        }
+        i += 1;
+    }
+    false
+}
 
 // "Longest inputs, in bytes: SAN 16,384; subject 4,096; constraints 16,384; references 5,120. One byte more is answer 7."
-fn any_long(references: &[u8], san: &[u8], subject: &[u8], constraints: &[u8]) -> bool
-    ensures { λ r. ⌜ r ≡ anyLong (now (references .entry)) (now (san .entry)) (now (subject .entry)) (now (constraints .entry)) ⌝ }
+fn any_long(
+    references: &[u8],
+    san: &[u8],
+    subject: &[u8],
+    constraints: &[u8],
+    lengths: &[usize],
+) -> bool
+    ensures { λ r. ⌜ r ≡ anyLong (now (references .entry)) (now (san .entry)) (now (subject .entry)) (now (constraints .entry)) (now (lengths .entry)) ⌝ }
 {
     if RECORDS_LIMIT < references.len() {
         return true;
@@ -45,7 +74,8 @@ fn any_long(references: &[u8], san: &[u8], subject: &[u8], constraints: &[u8]) -
     if SUBJECT_LIMIT < subject.len() {
         return true;
     }
-    CONSTRAINTS_LIMIT < constraints.len()
+    let size = constraints.len();
+    constraints_long(lengths, size)
 }
 
 // Whether the SAN is absent or readable.
@@ -73,8 +103,8 @@ fn subject_read(s: &[u8]) -> bool
     }
 }
 
-// Whether the constraints are absent or readable.
-fn constraints_read(s: &[u8]) -> bool
+// Whether one issuer's constraints are absent or readable.
+fn string_read(s: &[u8]) -> bool
     ensures { λ r. ⌜ r ≡ validated readConstraints (now (s .entry)) ⌝ }
 {
     if s.len() == 0 {
@@ -87,12 +117,35 @@ fn constraints_read(s: &[u8]) -> bool
     }
 }
 
+// Whether the constraints of every issuer are.
+fn constraints_read(constraints: &[u8], lengths: &[usize]) -> bool
+    requires { ⌜ lengthsFit (now lengths) (length (now constraints)) ≡ true ⌝ }
+    ensures { λ r. ⌜ r ≡ constraintsRead (now (constraints .entry)) (now (lengths .entry)) ⌝ }
+{
+    let mut i = 0;
+    while i < lengths.len() {
+        let s = string_of(lengths, constraints, i);
+        let read = string_read(s);
+        if !read {
+            return false;
+        }
+        i += 1;
+    }
+    true
+}
+
 // "Order for a verdict: 7 for any of the four inputs, then 6, 3, 4, 5": the first that applies, or 0. Each input is validated
 // here, once.
-fn refusal(references: &[u8], san: &[u8], subject: &[u8], constraints: &[u8]) -> usize
-    ensures { λ r. ⌜ r ≡ refusalOf (now (references .entry)) (now (san .entry)) (now (subject .entry)) (now (constraints .entry)) ⌝ }
+fn refusal(
+    references: &[u8],
+    san: &[u8],
+    subject: &[u8],
+    constraints: &[u8],
+    lengths: &[usize],
+) -> usize
+    ensures { λ r. ⌜ r ≡ refusalOf (now (references .entry)) (now (san .entry)) (now (subject .entry)) (now (constraints .entry)) (now (lengths .entry)) ⌝ }
 {
-    let long = any_long(references, san, subject, constraints);
+    let long = any_long(references, san, subject, constraints, lengths);
     if long {
         return INPUT_TOO_LONG;
     }
@@ -108,7 +161,7 @@ fn refusal(references: &[u8], san: &[u8], subject: &[u8], constraints: &[u8]) ->
     if !read {
         return SUBJECT_UNREADABLE;
     }
-    let read = constraints_read(constraints);
+    let read = constraints_read(constraints, lengths);
     if !read {
         return CONSTRAINTS_UNREADABLE;
     }
@@ -116,24 +169,37 @@ fn refusal(references: &[u8], san: &[u8], subject: &[u8], constraints: &[u8]) ->
 }
 
 // How the verdict ends: the refusals, then the constraints, "even if another name would match", then the first pair.
-pub fn outcome(san: &[u8], subject: &[u8], constraints: &[u8], references: &[u8]) -> Outcome
-    ensures { λ r. ⌜ (r ≡ outcomeOn (inputs (now (san .entry)) (now (subject .entry)) (now (constraints .entry)) (now (references .entry))))
+pub fn outcome(
+    san: &[u8],
+    subject: &[u8],
+    constraints: &[u8],
+    lengths: &[usize],
+    references: &[u8],
+) -> Outcome
+    ensures { λ r. ⌜ (r ≡ outcomeOn (inputs (now (san .entry)) (now (subject .entry)) (now (constraints .entry)) (some (now (lengths .entry))) (now (references .entry))))
         × Small (now (san .entry)) (now (subject .entry)) r ⌝ }
 {
-    let n = refusal(references, san, subject, constraints);
+    let n = refusal(references, san, subject, constraints, lengths);
     if n != 0 {
         return Outcome::Refused(n);
     }
-    let b = first_broken(san, constraints);
+    let b = first_breach(san, constraints, lengths);
     match b {
-        Broken::At(i) => Outcome::Broken(Breach { presented: i }),
-        Broken::Nothing => first_pair(references, san, subject),
+        Breached::At(breach) => Outcome::Broken(breach),
+        Breached::Nothing => first_pair(references, san, subject),
     }
 }
 
 // A verdict's numbers, put together in this one place.
-fn five(answer: usize, reference: usize, presented: usize, start: usize, length: usize) -> Verdict
-    ensures { λ r. ⌜ r ≡ numbers answer reference presented start length ⌝ }
+fn six(
+    answer: usize,
+    reference: usize,
+    presented: usize,
+    start: usize,
+    length: usize,
+    issuer: usize,
+) -> Verdict
+    ensures { λ r. ⌜ r ≡ numbers answer reference presented start length issuer ⌝ }
 {
     Verdict {
         answer: answer,
@@ -141,35 +207,49 @@ fn five(answer: usize, reference: usize, presented: usize, start: usize, length:
         presented: presented,
         start: start,
         length: length,
+        issuer: issuer,
     }
 }
 
-// The five numbers of an outcome.
-fn numbers(o: Outcome) -> Verdict
+// The six numbers of an outcome: "the issuer's index, zero except with answer 2".
+pub fn numbers(o: Outcome) -> Verdict
     ensures { λ r. ⌜ r ≡ numbersOf o ⌝ }
 {
     match o {
-        Outcome::Refused(n) => five(n, 0, 0, 0, 0),
-        Outcome::Broken(b) => five(CONSTRAINTS_BROKEN, 0, b.presented, 0, 0),
+        Outcome::Refused(n) => six(n, 0, 0, 0, 0, 0),
+        Outcome::Broken(b) => six(CONSTRAINTS_BROKEN, 0, b.presented, 0, 0, b.issuer),
         Outcome::Matched(w) => {
             let place = w.element;
-            five(MATCH, w.reference, w.presented, place.start, place.length)
+            six(
+                MATCH,
+                w.reference,
+                w.presented,
+                place.start,
+                place.length,
+                0,
+            )
         }
-        Outcome::Mismatched => five(MISMATCH, 0, 0, 0, 0),
+        Outcome::Mismatched => six(MISMATCH, 0, 0, 0, 0, 0),
     }
 }
 
-// "A verdict is five numbers: answer, reference index, presented index, start, length."
-pub fn verdict(san: &[u8], subject: &[u8], constraints: &[u8], references: &[u8]) -> Verdict
-    ensures { λ r. ⌜ (r ≡ verdictOn (inputs (now (san .entry)) (now (subject .entry)) (now (constraints .entry)) (now (references .entry))))
+// "A verdict is five numbers: answer, reference index, presented index, start, length", and the issuer's index.
+pub fn verdict(
+    san: &[u8],
+    subject: &[u8],
+    constraints: &[u8],
+    lengths: &[usize],
+    references: &[u8],
+) -> Verdict
+    ensures { λ r. ⌜ (r ≡ verdictOn (inputs (now (san .entry)) (now (subject .entry)) (now (constraints .entry)) (some (now (lengths .entry))) (now (references .entry))))
         × SmallNumbers r ⌝ }
 {
-    let o = outcome(san, subject, constraints, references);
+    let o = outcome(san, subject, constraints, lengths, references);
     numbers(o)
 }
 
 // Where the witness's text lies in its string; zeros on any answer but 0.
-fn text_of(o: Outcome) -> Place
+pub fn text_of(o: Outcome) -> Place
     ensures { λ r. ⌜ r ≡ witnessPart o ⌝ }
 {
     match o {
@@ -190,11 +270,17 @@ fn text_of(o: Outcome) -> Place
 }
 
 // Where the text of a verdict's witness lies, for callers that cannot be handed a part of a slice.
-pub fn text_place(san: &[u8], subject: &[u8], constraints: &[u8], references: &[u8]) -> Place
-    ensures { λ r. ⌜ (r ≡ witnessPartOn (inputs (now (san .entry)) (now (subject .entry)) (now (constraints .entry)) (now (references .entry))))
+pub fn text_place(
+    san: &[u8],
+    subject: &[u8],
+    constraints: &[u8],
+    lengths: &[usize],
+    references: &[u8],
+) -> Place
+    ensures { λ r. ⌜ (r ≡ witnessPartOn (inputs (now (san .entry)) (now (subject .entry)) (now (constraints .entry)) (some (now (lengths .entry))) (now (references .entry))))
         × SmallPlace r ⌝ }
 {
-    let o = outcome(san, subject, constraints, references);
+    let o = outcome(san, subject, constraints, lengths, references);
     text_of(o)
 }
 
@@ -234,11 +320,12 @@ pub fn witness<'a>(
     san: &'a [u8],
     subject: &'a [u8],
     constraints: &[u8],
+    lengths: &[usize],
     references: &[u8],
 ) -> &'a [u8]
-    ensures bytes { λ r. ⌜ now r ≡ witnessTextOn (inputs (now (san .entry)) (now (subject .entry)) (now (constraints .entry)) (now (references .entry))) ⌝ }
-    ensures place { λ r. ⌜ r .ptr ≡ witnessPlaceOn (inputs (now (san .entry)) (now (subject .entry)) (now (constraints .entry)) (now (references .entry))) (san .entry .ptr) (subject .entry .ptr) ⌝ }
+    ensures bytes { λ r. ⌜ now r ≡ witnessTextOn (inputs (now (san .entry)) (now (subject .entry)) (now (constraints .entry)) (some (now (lengths .entry))) (now (references .entry))) ⌝ }
+    ensures place { λ r. ⌜ r .ptr ≡ witnessPlaceOn (inputs (now (san .entry)) (now (subject .entry)) (now (constraints .entry)) (some (now (lengths .entry))) (now (references .entry))) (san .entry .ptr) (subject .entry .ptr) ⌝ }
 {
-    let o = outcome(san, subject, constraints, references);
+    let o = outcome(san, subject, constraints, lengths, references);
     shown(san, subject, o)
 }

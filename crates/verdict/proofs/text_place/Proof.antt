@@ -7,15 +7,15 @@ use Rattle.verdict.proofs.text_place.Lts as lts
 use Rattle.verdict.proofs.outcome.Reads as outcome-reads
 use Rattle.verdict.proofs.text_of.Reads as text-of-reads
 
--- src/lib.rt:203:9
+-- src/lib.rt:283:9
 outcome-requires : tie.Need-outcome-requires
 outcome-requires c κs = search needs
 
--- src/lib.rt:204:5
+-- src/lib.rt:284:5
 text-of-requires : tie.Need-text-of-requires
 text-of-requires c κs = search needs
 
--- src/lib.rt:199:1
+-- src/lib.rt:273:1
 returns : tie.Need-returns
 returns c = search (needs, texts)
 

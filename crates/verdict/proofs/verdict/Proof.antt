@@ -7,15 +7,15 @@ use Rattle.verdict.proofs.verdict.Lts as lts
 use Rattle.verdict.proofs.numbers.Reads as numbers-reads
 use Rattle.verdict.proofs.outcome.Reads as outcome-reads
 
--- src/lib.rt:172:9
+-- src/lib.rt:247:9
 outcome-requires : tie.Need-outcome-requires
 outcome-requires c κs = search needs
 
--- src/lib.rt:173:5
+-- src/lib.rt:248:5
 numbers-requires : tie.Need-numbers-requires
 numbers-requires c κs = search needs
 
--- src/lib.rt:168:1
+-- src/lib.rt:237:1
 returns : tie.Need-returns
 returns c = search (needs, laws)
 

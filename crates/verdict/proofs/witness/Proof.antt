@@ -7,15 +7,15 @@ use Rattle.verdict.proofs.witness.Lts as lts
 use Rattle.verdict.proofs.outcome.Reads as outcome-reads
 use Rattle.verdict.proofs.shown.Reads as shown-reads
 
--- src/lib.rt:248:9
+-- src/lib.rt:329:9
 outcome-requires : tie.Need-outcome-requires
 outcome-requires c κs = search needs
 
--- src/lib.rt:249:5
+-- src/lib.rt:330:5
 shown-requires : tie.Need-shown-requires
 shown-requires c κs = search needs
 
--- src/lib.rt:239:1
+-- src/lib.rt:319:1
 returns : tie.Need-returns
 returns c = search (needs, texts)
 
