@@ -17,6 +17,7 @@ use Rattle.rules.specs.declared.Row.{Row}
 use Rattle.rules.specs.declared.Place.{Place}
 use Rattle.rules.specs.declared.Witness.{Witness}
 use Rattle.rules.specs.declared.Verdict.{Verdict}
+use Rattle.rules.specs.declared.VerdictNumbers.{VerdictNumbers}
 use Rattle.rules.specs.declared.Breach.{Breach}
 use Rattle.rules.specs.declared.Outcome.{Outcome}
 use Rattle.rules.specs.declared.Outcome.the-variants.{Refused, Broken, Matched, Mismatched}
@@ -108,6 +109,23 @@ witnessPart (Refused answer) = record { start = 0; length = 0 }
 witnessPart (Broken b) = record { start = 0; length = 0 }
 witnessPart (Matched w) = w .text
 witnessPart Mismatched = record { start = 0; length = 0 }
+
+-- the numbers and the text's place side by side
+abbrev pub withPlace : Verdict → Place → VerdictNumbers
+withPlace v text = record {
+  answer = v .answer;
+  reference = v .reference;
+  presented = v .presented;
+  start = v .start;
+  length = v .length;
+  issuer = v .issuer;
+  «text_start» = text .start;
+  «text_length» = text .length;
+}
+
+-- 6/13: "answers one struct .., so that a caller who wants all numbers pays for one verdict"
+unfoldable pub allNumbers : Outcome → VerdictNumbers
+allNumbers o = withPlace (numbersOf o) (witnessPart o)
 
 -- "On any answer but 0 that part is empty"
 unfoldable pub witnessText : List ℕ → List ℕ → Outcome → List ℕ

@@ -127,6 +127,19 @@ pub struct Verdict {
     pub issuer: usize,
 }
 
+// All numbers that C is told of a verdict: its own six, and where the witness's text lies. They are `allNumbers` of specs/Verdict.antt.
+#[repr(C)]
+pub struct VerdictNumbers {
+    pub answer: u32,
+    pub reference: u32,
+    pub presented: u32,
+    pub start: u32,
+    pub length: u32,
+    pub issuer: u32,
+    pub text_start: u32,
+    pub text_length: u32,
+}
+
 // What the record reader shows: the answer, the record's kind, and the lengths of its service and its domain.
 pub struct Shown {
     pub answer: usize,

@@ -36,7 +36,7 @@ use Rattle.constrained.specs.declared.Breached as breached
 use Rattle.constrained.specs.declared.Breached.the-variants.{At, Nothing}
 use Rattle.issuers.specs.Strings.{stringsIn, stringAt, fit-count}
 use Rattle.pairs.specs.Pairs.{Fits, OutcomeFits}
-use Rattle.verdict.specs.Judging.{constraintsLong, anyLong, subjectRead, constraintsRead, refusalOf, SmallWitness, Small, SmallNumbers, SmallPlace}
+use Rattle.verdict.specs.Judging.{constraintsLong, anyLong, subjectRead, constraintsRead, refusalOf, SmallWitness, Small, SmallNumbers, SmallPlace, numbers-small, part-small}
 use Rattle.verdict.proofs.Refusing.{whole, AllRead, sizes-fit, lengths-fit, refused-is, all-read, judged-is}
 
 -- ---- any_long
@@ -307,48 +307,13 @@ module _ (o : Outcome) where
   unfolding numbersOf
   num-mismatched v e f = f ∙ rw e
 
-numbers-small-of : (S J : List ℕ) (p : Outcome) → Small S J p → SmallNumbers (numbersOf p)
-unfolding numbersOf Small
-numbers-small-of S J (Refused n) q = record {
-  answer-small = q;
-  reference-small = omega arith;
-  presented-small = omega arith;
-  start-small = omega arith;
-  length-small = omega arith;
-  issuer-small = omega arith;
-}
-numbers-small-of S J (Broken b) q = record {
-  answer-small = omega arith;
-  reference-small = omega arith;
-  presented-small = q .1;
-  start-small = omega arith;
-  length-small = omega arith;
-  issuer-small = q .0;
-}
-numbers-small-of S J (Matched w) q = record {
-  answer-small = omega arith;
-  reference-small = omega (arith, q .reference-small);
-  presented-small = q .presented-small;
-  start-small = q .start-small;
-  length-small = q .length-small;
-  issuer-small = omega arith;
-}
-numbers-small-of S J Mismatched q = record {
-  answer-small = omega arith;
-  reference-small = omega arith;
-  presented-small = omega arith;
-  start-small = omega arith;
-  length-small = omega arith;
-  issuer-small = omega arith;
-}
-
 module _ (R S J C L : List ℕ) (o : Outcome) (v : Verdict) (v-is : v ≡ numbersOf o) where
   pub verdict-is : o ≡ whole R S J C L → v ≡ verdictOn (inputs S J C (some L) R)
   unfolding verdictOn
   verdict-is e = v-is ∙ ap numbersOf e
 
   pub verdict-small : Small S J o → SmallNumbers v
-  verdict-small q = rw v-is (numbers-small-of S J o q)
+  verdict-small q = rw v-is (numbers-small S J o q)
 
 -- ---- the witness's text
 
@@ -369,20 +334,13 @@ module _ (o : Outcome) where
   unfolding witnessPart
   text-mismatched e = rw e
 
-part-small-of : (S J : List ℕ) (p : Outcome) → Small S J p → SmallPlace (witnessPart p)
-unfolding Small witnessPart
-part-small-of S J (Refused n) q = record { start-small = omega arith; length-small = omega arith }
-part-small-of S J (Broken b) q = record { start-small = omega arith; length-small = omega arith }
-part-small-of S J (Matched w) q = record { start-small = omega (arith, q .text-small); length-small = omega (arith, q .text-small) }
-part-small-of S J Mismatched q = record { start-small = omega arith; length-small = omega arith }
-
 module _ (R S J C L : List ℕ) (o : Outcome) (p : Place) (p-is : p ≡ witnessPart o) where
   pub place-is : o ≡ whole R S J C L → p ≡ witnessPartOn (inputs S J C (some L) R)
   unfolding witnessPartOn
   place-is e = p-is ∙ ap witnessPart e
 
   pub place-small : Small S J o → SmallPlace p
-  place-small q = rw p-is (part-small-of S J o q)
+  place-small q = rw p-is (part-small S J o q)
 
 -- ---- the witness, in its string
 

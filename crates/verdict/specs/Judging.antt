@@ -2,12 +2,14 @@
 use Prim.Native.Nat.{ℕ, _+_, _≤_, _<_}
 use mathlib.Core.Bool.{Bool, true, false, cond, not, _||_}
 use mathlib.Core.List.{List}
+use native.Mathlib.Omega.{arith}
 use lib.ListN.{length}
 use lib.Dec.{T, ltb}
 use Rattle.rules.specs.Bytes.{all, any}
 use Rattle.rules.specs.Numbers.{sanLimit, subjectLimit, constraintsLimit, recordsLimit, inputTooLong, recordsUnreadable, sanUnreadable, subjectUnreadable, constraintsUnreadable}
 use Rattle.rules.specs.Records.{goodRecords}
 use Rattle.rules.specs.Seen.{lengthsFit}
+use Rattle.rules.specs.Verdict.{numbersOf, witnessPart}
 use Rattle.rules.specs.declared.Place.{Place}
 use Rattle.rules.specs.declared.Witness.{Witness}
 use Rattle.rules.specs.declared.Verdict.{Verdict}
@@ -72,3 +74,46 @@ pub record SmallNumbers (v : Verdict) : Type 0 where
 pub record SmallPlace (p : Place) : Type 0 where
   pub start-small : p .start ≤ sanLimit
   pub length-small : p .length ≤ sanLimit
+
+-- the numbers of a small outcome are small
+pub numbers-small : (S J : List ℕ) (p : Outcome) → Small S J p → SmallNumbers (numbersOf p)
+unfolding numbersOf Small
+numbers-small S J (Refused n) q = record {
+  answer-small = q;
+  reference-small = omega arith;
+  presented-small = omega arith;
+  start-small = omega arith;
+  length-small = omega arith;
+  issuer-small = omega arith;
+}
+numbers-small S J (Broken b) q = record {
+  answer-small = omega arith;
+  reference-small = omega arith;
+  presented-small = q .1;
+  start-small = omega arith;
+  length-small = omega arith;
+  issuer-small = q .0;
+}
+numbers-small S J (Matched w) q = record {
+  answer-small = omega arith;
+  reference-small = omega (arith, q .reference-small);
+  presented-small = q .presented-small;
+  start-small = q .start-small;
+  length-small = q .length-small;
+  issuer-small = omega arith;
+}
+numbers-small S J Mismatched q = record {
+  answer-small = omega arith;
+  reference-small = omega arith;
+  presented-small = omega arith;
+  start-small = omega arith;
+  length-small = omega arith;
+  issuer-small = omega arith;
+}
+
+pub part-small : (S J : List ℕ) (p : Outcome) → Small S J p → SmallPlace (witnessPart p)
+unfolding Small witnessPart
+part-small S J (Refused n) q = record { start-small = omega arith; length-small = omega arith }
+part-small S J (Broken b) q = record { start-small = omega arith; length-small = omega arith }
+part-small S J (Matched w) q = record { start-small = omega (arith, q .text-small); length-small = omega (arith, q .text-small) }
+part-small S J Mismatched q = record { start-small = omega arith; length-small = omega arith }
