@@ -1,32 +1,51 @@
 /* beckethand: does a certificate name the server that we mean?
  *
- * A TLS library that has checked a certificate's signatures, dates and standard name constraints asks here, before anything is
- * sent, whether the certificate's names match the names that the caller expects (RFC 6125), and whether its SRVNames keep to a
- * CA's SRVName restrictions (RFC 4985). Both are narrowed by rules of our own, which docs/RULES.md says whole.
+ * A TLS library that has checked a certificate's signatures and dates asks here, before anything is sent, whether the certificate's
+ * names match the names that the caller expects (RFC 6125), and whether its SRVNames and dNSNames keep to the name constraints of
+ * every CA above it (RFC 4985, RFC 5280). Both are narrowed by rules of our own, which docs/RULES.md says whole.
  *
- * INPUTS. Four byte strings, each a pointer and a length; a pointer may be NULL where the length is 0. Nothing has to be checked
- * first: every call answers for any bytes at all, reads nothing outside them, allocates nothing and keeps nothing. The four may
+ * INPUTS. Five byte strings, each a pointer and a length; a pointer may be NULL where the length is 0. Nothing has to be checked
+ * first: every call answers for any bytes at all, reads nothing outside them, allocates nothing and keeps nothing. The five may
  * overlap one another; none may change while a call runs.
  *
  *   san          the value of the subjectAltName extension, a DER SEQUENCE; empty if the certificate has none
  *   subject      the subject, a DER Name. A certificate always has one: a subject without names is the two bytes 30 00
- *   constraints  the value of a CA's nameConstraints extension, a DER SEQUENCE; empty if it has none. One call takes the
- *                constraints of one CA: where several CAs of the path have them, call once for each, and go on only if each
- *                call answers 0
+ *   constraints  the values of the nameConstraints extensions, each a DER SEQUENCE, of EVERY CA in the path, end to end with nothing
+ *                between: first that of the CA that issued the certificate, then that of its issuer, and so on; at most 8. A CA
+ *                without the extension has the empty value. All of them must hold
+ *   lengths      the lengths of those values, in the same order, two bytes for each, high byte first; they add up to the length of
+ *                constraints. No bytes where there are no values
  *   references   our reference records, 1 to 16 of them, 320 bytes each, end to end: see RECORDS
  *
- * Longest inputs in bytes: san 16,384; subject 4,096; constraints 16,384; references 5,120.
+ * Longest inputs in bytes: san 16,384; subject 4,096; each of the constraints 16,384; references 5,120.
+ *
+ * So constraints and lengths are laid down, from values[0] to values[n - 1], n at most BECKETHAND_MOST_ISSUERS:
+ *
+ *   uint8_t constraints[BECKETHAND_MOST_ISSUERS * BECKETHAND_CONSTRAINTS_LIMIT], lengths[2 * BECKETHAND_MOST_ISSUERS];
+ *   size_t end = 0;
+ *   for (size_t k = 0; k < n; k++) {
+ *       if (values[k].size > BECKETHAND_CONSTRAINTS_LIMIT)
+ *           return BECKETHAND_INPUT_TOO_LONG;
+ *       memcpy(constraints + end, values[k].bytes, values[k].size);
+ *       end += values[k].size;
+ *       lengths[2 * k] = (uint8_t)(values[k].size >> 8);
+ *       lengths[2 * k + 1] = (uint8_t)values[k].size;
+ *   }
+ *   answer = beckethand_answer(san, san_len, subject, subject_len, constraints, end, lengths, 2 * n, references, references_len);
  *
  * ANSWERS, and what a kiosk should do:
  *
  *   0  match                          go on
  *   1  mismatch                       do not send: the server is another one
- *   2  an SRVName breaks the constraints   do not send: the CA may not give that name; report the certificate
+ *   2  constraints broken             do not send: an SRVName or a dNSName breaks the constraints of a CA, which may not give that
+ *                                     name; report the certificate
  *   3  san unreadable                 do not send: report the certificate
  *   4  subject unreadable             do not send: report the certificate
  *   5  constraints unreadable         do not send: report the CA's certificate
  *   6  references unreadable          do not send: our own records are wrong; repair the kiosk's settings
- *   7  an input is too long           do not send: report the certificate, or shorten the records
+ *   7  an input is too long           do not send: report the certificate, or shorten the records. Also where there are more than 8
+ *                                     lengths, where they do not add up to the constraints' bytes, and where the lengths have an
+ *                                     odd count of bytes: then correct the call
  *   8  table too short                only from beckethand_list: lend as many rows as its count says
  *
  * The first of these that applies is given: 7, then 6, 3, 4, 5, 2, and else 0 or 1. So an empty subject (length 0) is answered with
@@ -38,8 +57,8 @@
  *   san          an SRVName as UTF8String, or an empty one; a byte above 127 in an email address, a dNSName or a URI; no name
  *   subject      an RDN without attributes; a value whose tag has more than one byte
  *   constraints  a subtree with a minimum or a maximum; an SRVName as UTF8String; an SRVName restriction that is not _service,
- *                _service.domain or domain, such as one with a leading dot, or one whose last label is all digits; neither a
- *                permitted nor an excluded subtree
+ *                _service.domain or domain; a dNSName restriction that is not empty and not a domain; each such as one with a leading
+ *                dot, or one whose last label is all digits; neither a permitted nor an excluded subtree
  *
  * RECORDS. A good record is 320 bytes:
  *
@@ -59,8 +78,16 @@
  * WILDCARDS. A dNSName or a CN may begin with "*.", which stands for one whole label, and then has two labels or more behind it:
  * "*.branch.example" matches a reference "desk.branch.example", and "*.example" matches none.
  *
+ * CONSTRAINTS. Where a CA's constraints have a subtree of the form dNSName, each dNSName must be a name as it could match, must lie in
+ * none of the excluded ones and, if any is permitted, in one of the permitted ones; and the same of SRVNames. A dNSName lies in a
+ * subtree if the subtree's labels are its last labels, in either case of letters; an empty subtree holds every name. The star of a
+ * wildcard is a label like others here: "*.a.b" lies in "a.b" and in "b", and not in "x.a.b". But it could stand for x, so it also
+ * breaks an excluded "x.a.b", or any other excluded subtree of one label and then "a.b"; it does not break an excluded "y.x.a.b". The
+ * subject's CN and URIs are not constrained.
+ *
  * ADDRESSES. A domain whose last label is all digits, as in "10.4.0.7", is none: such a dNSName, SRVName, URI or CN matches nothing,
- * and such an SRVName breaks any SRVName constraints (2). Other labels are not judged so: "4.example" and "a.7b" are domains.
+ * and such an SRVName or dNSName breaks any constraints of its form (2). Other labels are not judged so: "4.example" and "a.7b" are
+ * domains.
  */
 #ifndef BECKETHAND_H
 #define BECKETHAND_H
@@ -89,8 +116,11 @@ extern "C" {
 /* the longest inputs, in bytes */
 #define BECKETHAND_SAN_LIMIT 16384
 #define BECKETHAND_SUBJECT_LIMIT 4096
-#define BECKETHAND_CONSTRAINTS_LIMIT 16384
+#define BECKETHAND_CONSTRAINTS_LIMIT 16384 /* of each CA */
 #define BECKETHAND_REFERENCES_LIMIT 5120
+
+/* the most CAs whose constraints are handed over */
+#define BECKETHAND_MOST_ISSUERS 8
 
 /* a reference record: its size, where its fields begin, the sizes of the two fields that hold texts, and the kinds in byte 0 */
 #define BECKETHAND_RECORD_SIZE 320
@@ -109,39 +139,55 @@ extern "C" {
 
 /* beckethand_answer gives the answer, 0 to 7. */
 uint32_t beckethand_answer(const uint8_t *san, size_t san_len, const uint8_t *subject, size_t subject_len,
-                           const uint8_t *constraints, size_t constraints_len, const uint8_t *references,
-                           size_t references_len);
+                           const uint8_t *constraints, size_t constraints_len, const uint8_t *lengths, size_t lengths_len,
+                           const uint8_t *references, size_t references_len);
 
 /* beckethand_reference gives the index, from 0, of the record that matches: the lowest one that matches any name. 0 on any answer
  * but 0. */
 uint32_t beckethand_reference(const uint8_t *san, size_t san_len, const uint8_t *subject, size_t subject_len,
-                              const uint8_t *constraints, size_t constraints_len, const uint8_t *references,
-                              size_t references_len);
+                              const uint8_t *constraints, size_t constraints_len, const uint8_t *lengths, size_t lengths_len,
+                              const uint8_t *references, size_t references_len);
 
 /* beckethand_presented gives, on answer 0, the index of the name that the record matches, the lowest one: the entry's index in the
  * SAN, or the RDN's index in the subject for a CN record. On answer 2, the index of the first SAN entry that breaks the
- * constraints. Else 0. */
+ * constraints of the CA that beckethand_issuer gives. Else 0. */
 uint32_t beckethand_presented(const uint8_t *san, size_t san_len, const uint8_t *subject, size_t subject_len,
-                              const uint8_t *constraints, size_t constraints_len, const uint8_t *references,
-                              size_t references_len);
+                              const uint8_t *constraints, size_t constraints_len, const uint8_t *lengths, size_t lengths_len,
+                              const uint8_t *references, size_t references_len);
 
 /* beckethand_start and beckethand_length give, on answer 0, where that name's whole DER element lies: the GeneralName in the SAN,
  * or the attribute's SEQUENCE in the subject for a CN record. Else 0. */
 uint32_t beckethand_start(const uint8_t *san, size_t san_len, const uint8_t *subject, size_t subject_len,
-                          const uint8_t *constraints, size_t constraints_len, const uint8_t *references,
-                          size_t references_len);
+                          const uint8_t *constraints, size_t constraints_len, const uint8_t *lengths, size_t lengths_len,
+                          const uint8_t *references, size_t references_len);
 uint32_t beckethand_length(const uint8_t *san, size_t san_len, const uint8_t *subject, size_t subject_len,
-                           const uint8_t *constraints, size_t constraints_len, const uint8_t *references,
-                           size_t references_len);
+                           const uint8_t *constraints, size_t constraints_len, const uint8_t *lengths, size_t lengths_len,
+                           const uint8_t *references, size_t references_len);
 
 /* beckethand_text_start and beckethand_text_length give, on answer 0, where that name's text lies, in the subject for a CN record
  * and in the SAN for any other: the content of the dNSName or URI, of the SRVName's IA5String, of the CN's value. Else 0. */
 uint32_t beckethand_text_start(const uint8_t *san, size_t san_len, const uint8_t *subject, size_t subject_len,
-                               const uint8_t *constraints, size_t constraints_len, const uint8_t *references,
-                               size_t references_len);
+                               const uint8_t *constraints, size_t constraints_len, const uint8_t *lengths, size_t lengths_len,
+                               const uint8_t *references, size_t references_len);
 uint32_t beckethand_text_length(const uint8_t *san, size_t san_len, const uint8_t *subject, size_t subject_len,
-                                const uint8_t *constraints, size_t constraints_len, const uint8_t *references,
-                                size_t references_len);
+                                const uint8_t *constraints, size_t constraints_len, const uint8_t *lengths, size_t lengths_len,
+                                const uint8_t *references, size_t references_len);
+
+/* beckethand_issuer gives, on answer 2, the index, from 0, of the first CA whose constraints are broken, in the order of the lengths: 0 is
+ * the CA that issued the certificate. Else 0. */
+uint32_t beckethand_issuer(const uint8_t *san, size_t san_len, const uint8_t *subject, size_t subject_len,
+                           const uint8_t *constraints, size_t constraints_len, const uint8_t *lengths, size_t lengths_len,
+                           const uint8_t *references, size_t references_len);
+
+/* All of these numbers. */
+struct beckethand_verdict {
+    uint32_t answer, reference, presented, start, length, issuer, text_start, text_length;
+};
+
+/* beckethand_verdict gives, at the cost of one of the calls above, what all eight of them give. */
+struct beckethand_verdict beckethand_verdict(const uint8_t *san, size_t san_len, const uint8_t *subject, size_t subject_len,
+                                             const uint8_t *constraints, size_t constraints_len, const uint8_t *lengths,
+                                             size_t lengths_len, const uint8_t *references, size_t references_len);
 
 /* beckethand_record_answer says whether the records are good: 7 if they are too long, else 6 if any of them is bad, there is none,
  * or their length is no multiple of 320, else 0. The index does not change it. */
@@ -188,11 +234,11 @@ struct beckethand_listed {
 #define BECKETHAND_LIST_SUBJECT 1
 #define BECKETHAND_LIST_CONSTRAINTS 2
 
-/* beckethand_list lists one certificate string. Only that string is judged. It answers 7 if the string is too long, or else 3, 4 or
- * 5 if it is unreadable, each with count 0; 8, with the count needed, exactly when that exceeds the rows lent; else 0 with the
- * count, and the first count rows of the table hold the names in byte order. Rows past the count keep what they held, and on any
- * answer but 0 all rows do. An absent SAN, or absent constraints (length 0), lists 0 rows. The table must not overlap the bytes; it
- * may be NULL where lent is 0. */
+/* beckethand_list lists one certificate string: of the constraints, those of one CA. Only that string is judged. It answers 7 if it is
+ * too long, or else 3, 4 or 5 if it is unreadable, each with count 0; 8, with the count needed, exactly when that exceeds the rows lent;
+ * else 0 with the count, and the first count rows of the table hold the names in byte order. Rows past the count keep what they held,
+ * and on any answer but 0 all rows do. An absent SAN, or absent constraints (length 0), lists 0 rows. The table must not overlap the
+ * bytes; it may be NULL where lent is 0. */
 struct beckethand_listed beckethand_list(struct beckethand_row *table, size_t lent, const uint8_t *bytes, size_t bytes_len,
                                          size_t which);
 

@@ -12,8 +12,9 @@
 
 #include "desk.h"
 
+/* the constraints of all issuers end to end, and their lengths, two bytes each */
 struct certificate {
-    struct bytes san, subject, constraints, references;
+    struct bytes san, subject, constraints, lengths, references;
 };
 
 static int failures = 0;
@@ -68,17 +69,37 @@ static struct bytes record(uint8_t kind, const char *service, const char *domain
     return b;
 }
 
+/* the length of one issuer's string; no length where it is empty */
+static struct bytes one_length(size_t len) {
+    struct bytes b = zeros(len ? 2 : 0);
+    if (len) {
+        b.at[0] = (uint8_t)(len >> 8);
+        b.at[1] = (uint8_t)len;
+    }
+    return b;
+}
+
 /* ---- the calls */
 
 #define ARGUMENTS(c) (c).san.at, (c).san.len, (c).subject.at, (c).subject.len, (c).constraints.at, (c).constraints.len, \
-                     (c).references.at, (c).references.len
+                     (c).lengths.at, (c).lengths.len, (c).references.at, (c).references.len
 
-static void ask(struct certificate c, uint32_t got[5]) {
+static void ask(struct certificate c, uint32_t got[8]) {
     got[0] = beckethand_answer(ARGUMENTS(c));
     got[1] = beckethand_reference(ARGUMENTS(c));
     got[2] = beckethand_presented(ARGUMENTS(c));
     got[3] = beckethand_start(ARGUMENTS(c));
     got[4] = beckethand_length(ARGUMENTS(c));
+    got[5] = beckethand_issuer(ARGUMENTS(c));
+    got[6] = beckethand_text_start(ARGUMENTS(c));
+    got[7] = beckethand_text_length(ARGUMENTS(c));
+}
+
+/* all numbers at once are those of the single calls */
+static bool same_at_once(struct certificate c, const uint32_t got[8]) {
+    struct beckethand_verdict v = beckethand_verdict(ARGUMENTS(c));
+    return v.answer == got[0] && v.reference == got[1] && v.presented == got[2] && v.start == got[3] && v.length == got[4]
+        && v.issuer == got[5] && v.text_start == got[6] && v.text_length == got[7];
 }
 
 /* a copy that ends where a page ends which may not be left */
@@ -101,21 +122,23 @@ void check(const char *name, const char *what, bool good) {
     }
 }
 
-static void expect(const char *name, struct certificate c, uint32_t a, uint32_t r, uint32_t p, uint32_t s, uint32_t l) {
-    uint32_t want[5] = {a, r, p, s, l}, got[5];
+static void expect(const char *name, struct certificate c, uint32_t a, uint32_t r, uint32_t p, uint32_t s, uint32_t l, uint32_t i) {
+    uint32_t want[6] = {a, r, p, s, l, i}, got[8], again[8];
     cases++;
     ask(c, got);
-    if (memcmp(got, want, sizeof got) != 0) {
-        printf("FAILED %s: %u %u %u %u %u, not %u %u %u %u %u\n", name, got[0], got[1], got[2], got[3], got[4], a, r, p, s, l);
+    if (memcmp(got, want, sizeof want) != 0) {
+        printf("FAILED %s: %u %u %u %u %u %u, not %u %u %u %u %u %u\n", name, got[0], got[1], got[2], got[3], got[4], got[5], a, r, p, s, l,
+               i);
         failures++;
     }
-    struct certificate g = {guarded(c.san), guarded(c.subject), guarded(c.constraints), guarded(c.references)};
-    ask(g, got);
-    check(name, "another answer at the end of a page", memcmp(got, want, sizeof got) == 0);
+    check(name, "other numbers from the call that gives them all", same_at_once(c, got));
+    struct certificate g = {guarded(c.san), guarded(c.subject), guarded(c.constraints), guarded(c.lengths), guarded(c.references)};
+    ask(g, again);
+    check(name, "another answer at the end of a page", memcmp(again, got, sizeof got) == 0 && same_at_once(g, got));
 }
 
 /* an answer with zeros beside it */
-static void expect_zeros(const char *name, struct certificate c, uint32_t answer) { expect(name, c, answer, 0, 0, 0, 0); }
+static void expect_zeros(const char *name, struct certificate c, uint32_t answer) { expect(name, c, answer, 0, 0, 0, 0, 0); }
 
 /* the witness's text, as a part of the SAN or the subject */
 static void expect_text(const char *name, struct certificate c, bool in_subject, const char *text) {
@@ -217,31 +240,32 @@ static void expect_list(const char *name, struct bytes b, size_t which, size_t l
 #define PERMITS_N "30 16 A0 14 30 12 A0 10 06 08 2B 06 01 05 05 07 08 07 A0 04 16 02 5F 6E"
 
 static struct certificate with(const char *san, const char *subject, const char *constraints, struct bytes references) {
-    struct certificate c = {from_hex(san), from_hex(subject), from_hex(constraints), references};
+    struct bytes one = from_hex(constraints);
+    struct certificate c = {from_hex(san), from_hex(subject), one, one_length(one.len), references};
     return c;
 }
 
 static void desk_examples(void) {
     struct certificate c = with(S, J, "", record(BECKETHAND_DNS, "", "A.B"));
-    expect("P16", c, 0, 0, 0, 2, 5);
+    expect("P16", c, 0, 0, 0, 2, 5, 0);
     expect_text("P16", c, false, "a.b");
     c = with("", J, "", record(BECKETHAND_CN, "", "a.b"));
-    expect("CN", c, 0, 0, 0, 4, 12);
+    expect("CN", c, 0, 0, 0, 4, 12, 0);
     expect_text("CN", c, true, "a.b");
-    expect("CN blocked by an empty dNSName", with("30 02 82 00", J, "", record(BECKETHAND_CN, "", "a.b")), 1, 0, 0, 0, 0);
+    expect("CN blocked by an empty dNSName", with("30 02 82 00", J, "", record(BECKETHAND_CN, "", "a.b")), 1, 0, 0, 0, 0, 0);
     c = with("30 81 05 82 03 61 2E 62", J, "", record(BECKETHAND_DNS, "", "a.b"));
-    expect("a length that is not shortest", c, 3, 0, 0, 0, 0);
-    expect("an empty SEQUENCE", with("30 00", J, "", record(BECKETHAND_DNS, "", "a.b")), 3, 0, 0, 0, 0);
+    expect("a length that is not shortest", c, 3, 0, 0, 0, 0, 0);
+    expect("an empty SEQUENCE", with("30 00", J, "", record(BECKETHAND_DNS, "", "a.b")), 3, 0, 0, 0, 0, 0);
     c = with(SRV, J, "", record(BECKETHAND_SRV, "m", "b.c"));
-    expect("SRV", c, 0, 0, 0, 2, 22);
+    expect("SRV", c, 0, 0, 0, 2, 22, 0);
     expect_text("SRV", c, false, "_m.b.c");
-    expect("SRV permitted", with(SRV, J, PERMITS, record(BECKETHAND_SRV, "m", "b.c")), 0, 0, 0, 2, 22);
+    expect("SRV permitted", with(SRV, J, PERMITS, record(BECKETHAND_SRV, "m", "b.c")), 0, 0, 0, 2, 22, 0);
     c = with(SRV, J, PERMITS_N, record(BECKETHAND_SRV, "m", "b.c"));
-    expect("SRV not permitted", c, 2, 0, 0, 0, 0);
+    expect("SRV not permitted", c, 2, 0, 0, 0, 0, 0);
     expect_text("SRV not permitted", c, false, "");
     /* SAN: URI `x://u@a.b:8/p` */
     c = with("30 0F 86 0D 78 3A 2F 2F 75 40 61 2E 62 3A 38 2F 70", J, "", record(BECKETHAND_URI, "X", "A.b"));
-    expect("URI", c, 0, 0, 0, 2, 15);
+    expect("URI", c, 0, 0, 0, 2, 15, 0);
     expect_text("URI", c, false, "x://u@a.b:8/p");
 }
 
@@ -250,18 +274,18 @@ static void old_faults(void) {
     expect("the domain test ends on labels",
            with("30 17 A0 15 06 08 2B 06 01 05 05 07 08 07 A0 09 16 07 5F 6D 2E 31 68 2E 62", J,
                 "30 17 A0 15 30 13 A0 11 06 08 2B 06 01 05 05 07 08 07 A0 05 16 03 68 2E 62", record(BECKETHAND_DNS, "", "a.b")),
-           2, 0, 0, 0, 0);
+           2, 0, 0, 0, 0, 0);
     expect("a CN is not cut at a zero byte",
            with("", "30 10 31 0E 30 0C 06 03 55 04 03 0C 05 61 2E 62 00 63", "", record(BECKETHAND_CN, "", "a.b")),
-           1, 0, 0, 0, 0);
+           1, 0, 0, 0, 0, 0);
     expect("a DNS-ID does not excuse an SRVName",
            with("30 19 82 03 61 2E 62 A0 12 06 08 2B 06 01 05 05 07 08 07 A0 06 16 04 5F 6D 2E 62", J, PERMITS_N,
                 record(BECKETHAND_DNS, "", "a.b")),
-           2, 0, 1, 0, 0);
+           2, 0, 1, 0, 0, 0);
     struct bytes two = zeros(2 * BECKETHAND_RECORD_SIZE);
     put_record(two.at, BECKETHAND_DNS, "", "a.b");
     put_record(two.at + BECKETHAND_RECORD_SIZE, BECKETHAND_DNS, "", "c.d");
-    expect("the lowest reference, then the lowest name", with("30 0A 82 03 63 2E 64 82 03 61 2E 62", J, "", two), 0, 0, 1, 7, 5);
+    expect("the lowest reference, then the lowest name", with("30 0A 82 03 63 2E 64 82 03 61 2E 62", J, "", two), 0, 0, 1, 7, 5, 0);
 }
 
 /* 1/13: "a wildcard needs at least two labels after it", and so does a record */
@@ -269,7 +293,7 @@ static void one_label(void) {
     const char *wild_b = "30 05 82 03 2A 2E 62", *wild_bc = "30 07 82 05 2A 2E 62 2E 63";
     expect_zeros("*.b, DNS", with(wild_b, J, "", record(BECKETHAND_DNS, "", "a.b")), BECKETHAND_MISMATCH);
     expect_zeros("*.b, CN", with(wild_b, J, "", record(BECKETHAND_CN, "", "a.b")), BECKETHAND_MISMATCH);
-    expect("*.b.c, DNS", with(wild_bc, J, "", record(BECKETHAND_DNS, "", "a.b.c")), 0, 0, 0, 2, 7);
+    expect("*.b.c, DNS", with(wild_bc, J, "", record(BECKETHAND_DNS, "", "a.b.c")), 0, 0, 0, 2, 7, 0);
     expect_zeros("*.b.c for b.c", with(wild_bc, J, "", record(BECKETHAND_DNS, "", "b.c")), BECKETHAND_MISMATCH);
     /* `*.example` */
     expect_zeros("*.example", with("30 0B 82 09 2A 2E 65 78 61 6D 70 6C 65", J, "", record(BECKETHAND_DNS, "", "branch.example")),
@@ -280,7 +304,7 @@ static void one_label(void) {
                  BECKETHAND_MISMATCH);
     expect("CN *.b.c",
            with("", "30 10 31 0E 30 0C 06 03 55 04 03 0C 05 2A 2E 62 2E 63", "", record(BECKETHAND_CN, "", "a.b.c")),
-           0, 0, 0, 4, 14);
+           0, 0, 0, 4, 14, 0);
     expect_zeros("SRV m, b", with(SRV_B, J, "", record(BECKETHAND_SRV, "m", "b")), BECKETHAND_REFERENCES_UNREADABLE);
     /* `b` is permitted */
     expect_zeros("_m.b under b",
@@ -295,12 +319,12 @@ static void long_labels(void) {
         char domain[67] = {0};
         memset(domain, 'a', n);
         memcpy(domain + n, ".b", 2);
-        struct certificate c = {zeros(n + 6), from_hex(J), {NULL, 0}, record(BECKETHAND_DNS, "", domain)};
+        struct certificate c = {zeros(n + 6), from_hex(J), {NULL, 0}, {NULL, 0}, record(BECKETHAND_DNS, "", domain)};
         const uint8_t headers[4] = {0x30, (uint8_t)(n + 4), 0x82, (uint8_t)(n + 2)};
         memcpy(c.san.at, headers, sizeof headers);
         memcpy(c.san.at + 4, domain, n + 2);
         if (n == 63)
-            expect("a label of 63 bytes", c, 0, 0, 0, 2, 67);
+            expect("a label of 63 bytes", c, 0, 0, 0, 2, 67, 0);
         else
             expect_zeros("a label of 64 bytes", c, BECKETHAND_REFERENCES_UNREADABLE);
     }
@@ -320,8 +344,10 @@ static void sizes(void) {
     expect_zeros("subject at its limit", d, BECKETHAND_SUBJECT_UNREADABLE);
     d = c;
     d.constraints = zeros(BECKETHAND_CONSTRAINTS_LIMIT + 1);
+    d.lengths = one_length(BECKETHAND_CONSTRAINTS_LIMIT + 1);
     expect_zeros("constraints too long", d, BECKETHAND_INPUT_TOO_LONG);
     d.constraints = zeros(BECKETHAND_CONSTRAINTS_LIMIT);
+    d.lengths = one_length(BECKETHAND_CONSTRAINTS_LIMIT);
     expect_zeros("constraints at their limit", d, BECKETHAND_CONSTRAINTS_UNREADABLE);
     d = c;
     d.references = zeros(BECKETHAND_REFERENCES_LIMIT + 1);
@@ -333,11 +359,11 @@ static void sizes(void) {
     d.references = zeros(BECKETHAND_REFERENCES_LIMIT);
     for (size_t i = 0; i < 16; i++)
         put_record(d.references.at + i * BECKETHAND_RECORD_SIZE, BECKETHAND_DNS, "", i == 15 ? "a.b" : "c.d");
-    expect("16 records, the last one matches", d, BECKETHAND_MATCH, 15, 0, 2, 5);
+    expect("16 records, the last one matches", d, BECKETHAND_MATCH, 15, 0, 2, 5, 0);
 }
 
 static void order_of_answers(void) {
-    struct certificate nothing = {{NULL, 0}, {NULL, 0}, {NULL, 0}, {NULL, 0}};
+    struct certificate nothing = {{NULL, 0}, {NULL, 0}, {NULL, 0}, {NULL, 0}, {NULL, 0}};
     struct bytes dns = record(BECKETHAND_DNS, "", "a.b"), bad = record(BECKETHAND_DNS, "", "");
     expect_zeros("nothing at all", nothing, BECKETHAND_REFERENCES_UNREADABLE);
     struct certificate c = with("30 00", "", "30 00", bad);
@@ -350,7 +376,7 @@ static void order_of_answers(void) {
     expect_zeros("5", with(S, J, "30 00", dns), BECKETHAND_CONSTRAINTS_UNREADABLE);
     expect_zeros("2", with(SRV, J, PERMITS_N, record(BECKETHAND_SRV, "m", "b.c")), BECKETHAND_CONSTRAINTS_BROKEN);
     expect_zeros("1", with(S, J, "", record(BECKETHAND_DNS, "", "a.c")), BECKETHAND_MISMATCH);
-    expect("a subject without names", with(S, "30 00", "", dns), BECKETHAND_MATCH, 0, 0, 2, 5);
+    expect("a subject without names", with(S, "30 00", "", dns), BECKETHAND_MATCH, 0, 0, 2, 5, 0);
 }
 
 #define SRV_OID "06 08 2B 06 01 05 05 07 08 07 "
@@ -403,11 +429,11 @@ static void addresses(void) {
     expect_zeros("10.4.0.7, DNS a.b", with(address, J, "", record(BECKETHAND_DNS, "", "a.b")), BECKETHAND_MISMATCH);
     expect_zeros("10.4.0.7, CN a.b", with(address, J, "", record(BECKETHAND_CN, "", "a.b")), BECKETHAND_MISMATCH);
     expect("4.example",
-           with("30 0B 82 09 34 2E 65 78 61 6D 70 6C 65", J, "", record(BECKETHAND_DNS, "", "4.example")), 0, 0, 0, 2, 11);
-    expect("a.7b", with("30 06 82 04 61 2E 37 62", J, "", record(BECKETHAND_DNS, "", "a.7b")), 0, 0, 0, 2, 6);
-    expect("a.0x7", with("30 07 82 05 61 2E 30 78 37", J, "", record(BECKETHAND_DNS, "", "a.0x7")), 0, 0, 0, 2, 7);
+           with("30 0B 82 09 34 2E 65 78 61 6D 70 6C 65", J, "", record(BECKETHAND_DNS, "", "4.example")), 0, 0, 0, 2, 11, 0);
+    expect("a.7b", with("30 06 82 04 61 2E 37 62", J, "", record(BECKETHAND_DNS, "", "a.7b")), 0, 0, 0, 2, 6, 0);
+    expect("a.0x7", with("30 07 82 05 61 2E 30 78 37", J, "", record(BECKETHAND_DNS, "", "a.0x7")), 0, 0, 0, 2, 7, 0);
     expect("*.4.example",
-           with("30 0D 82 0B 2A 2E 34 2E 65 78 61 6D 70 6C 65", J, "", record(BECKETHAND_DNS, "", "a.4.example")), 0, 0, 0, 2, 13);
+           with("30 0D 82 0B 2A 2E 34 2E 65 78 61 6D 70 6C 65", J, "", record(BECKETHAND_DNS, "", "a.4.example")), 0, 0, 0, 2, 13, 0);
     expect_zeros("*.a.7, DNS b.a.7", with(wild, J, "", record(BECKETHAND_DNS, "", "b.a.7")), BECKETHAND_REFERENCES_UNREADABLE);
     expect_zeros("*.a.7, CN a.b", with(wild, J, "", record(BECKETHAND_CN, "", "a.b")), BECKETHAND_MISMATCH);
     expect_zeros("7 and a.7 block a CN", with("30 08 82 01 37 82 03 61 2E 37", J, "", record(BECKETHAND_CN, "", "a.b")),
@@ -428,7 +454,7 @@ static void addresses_of_services(void) {
     expect("_7.a.b under _7",
            with("30 16 A0 14 06 08 2B 06 01 05 05 07 08 07 A0 08 16 06 5F 37 2E 61 2E 62", J, PERMITS_7,
                 record(BECKETHAND_SRV, "7", "a.b")),
-           0, 0, 0, 2, 22);
+           0, 0, 0, 2, 22, 0);
     /* the restrictions `10.4.0.7` and `_m.7` */
     const char *address = "30 1C A0 1A 30 18 A0 16 06 08 2B 06 01 05 05 07 08 07 A0 0A 16 08 31 30 2E 34 2E 30 2E 37";
     const char *of_service = "30 18 A1 16 30 14 A0 12 06 08 2B 06 01 05 05 07 08 07 A0 06 16 04 5F 6D 2E 37";
@@ -438,12 +464,12 @@ static void addresses_of_services(void) {
     expect_list("a restriction _m.7", from_hex(of_service), BECKETHAND_LIST_CONSTRAINTS, 2, 5, 0, NULL);
     /* the dNSName `10.4.0.7` is permitted */
     const char *dns = "30 0E A0 0C 30 0A 82 08 31 30 2E 34 2E 30 2E 37";
-    expect("a dNSName restriction 10.4.0.7", with(S, J, dns, record(BECKETHAND_DNS, "", "a.b")), 0, 0, 0, 2, 5);
+    unreadable_constraints("a dNSName restriction 10.4.0.7", dns);
     /* `x://10.4.0.7` and `x://a.b:7` */
     const char *uri = "30 0E 86 0C 78 3A 2F 2F 31 30 2E 34 2E 30 2E 37";
     expect_zeros("x://10.4.0.7, URI", with(uri, J, "", record(BECKETHAND_URI, "x", "a.b")), BECKETHAND_MISMATCH);
     expect_zeros("x://10.4.0.7, CN", with(uri, J, "", record(BECKETHAND_CN, "", "a.b")), BECKETHAND_MISMATCH);
-    expect("x://a.b:7", with("30 0B 86 09 78 3A 2F 2F 61 2E 62 3A 37", J, "", record(BECKETHAND_URI, "x", "a.b")), 0, 0, 0, 2, 11);
+    expect("x://a.b:7", with("30 0B 86 09 78 3A 2F 2F 61 2E 62 3A 37", J, "", record(BECKETHAND_URI, "x", "a.b")), 0, 0, 0, 2, 11, 0);
 }
 
 static void records(void) {
@@ -580,9 +606,145 @@ static void viewer(void) {
     check("position 26", "a set's header", is_view(beckethand_view(subject.at, subject.len, 1, 26), &attributes[2], 26));
     expect_viewer("16,384 bytes", one_long_name(16384, "3082"), BECKETHAND_LIST_SAN, BECKETHAND_ACCEPTED);
     expect_viewer("16,385 readable bytes", one_long_name(16385, "3082"), BECKETHAND_LIST_SAN, BECKETHAND_INPUT_TOO_LONG);
-    expect_viewer("constraints of 16,384", one_long_name(16384, "30A03082"), BECKETHAND_LIST_CONSTRAINTS, BECKETHAND_ACCEPTED);
-    expect_viewer("constraints of 16,385", one_long_name(16385, "30A03082"), BECKETHAND_LIST_CONSTRAINTS, BECKETHAND_INPUT_TOO_LONG);
+    expect_viewer("constraints of 16,384", one_long_name(16384, "30A03086"), BECKETHAND_LIST_CONSTRAINTS, BECKETHAND_ACCEPTED);
+    expect_viewer("constraints of 16,385", one_long_name(16385, "30A03086"), BECKETHAND_LIST_CONSTRAINTS, BECKETHAND_INPUT_TOO_LONG);
     expect_viewer("a subject of 4,097", zeros(4097), BECKETHAND_LIST_SUBJECT, BECKETHAND_INPUT_TOO_LONG);
+}
+
+/* request 6/13 */
+
+/* a string with one dNSName subtree, "+text" permitted or "-text" excluded; no bytes for ""; other bytes in hexadecimal */
+static struct bytes string_of(const char *said) {
+    size_t n = strlen(said);
+    if (n == 0 || (said[0] != '+' && said[0] != '-'))
+        return from_hex(said);
+    struct bytes b = zeros(n + 7);
+    const uint8_t headers[8] = {0x30, (uint8_t)(n + 5), said[0] == '+' ? 0xA0 : 0xA1, (uint8_t)(n + 3), 0x30, (uint8_t)(n + 1),
+                                0x82, (uint8_t)(n - 1)};
+    memcpy(b.at, headers, sizeof headers);
+    memcpy(b.at + 8, said + 1, n - 1);
+    return b;
+}
+
+/* the certificate with these constraints, end to end, the leaf's issuer first */
+static struct certificate under(struct certificate c, size_t count, const struct bytes strings[]) {
+    size_t all = 0, at = 0;
+    for (size_t k = 0; k < count; k++)
+        all += strings[k].len;
+    c.constraints = zeros(all);
+    c.lengths = zeros(2 * count);
+    for (size_t k = 0; k < count; k++) {
+        if (strings[k].len)
+            memcpy(c.constraints.at + at, strings[k].at, strings[k].len);
+        at += strings[k].len;
+        c.lengths.at[2 * k] = (uint8_t)(strings[k].len >> 8);
+        c.lengths.at[2 * k + 1] = (uint8_t)strings[k].len;
+    }
+    return c;
+}
+
+static struct certificate under_said(struct certificate c, size_t count, const char *const said[]) {
+    struct bytes strings[9];
+    for (size_t k = 0; k < count; k++)
+        strings[k] = string_of(said[k]);
+    return under(c, count, strings);
+}
+
+#define UNDER(c, ...) under_said(c, sizeof(const char *[]){__VA_ARGS__} / sizeof(char *), (const char *const[]){__VA_ARGS__})
+
+/* a SAN of one dNSName */
+static struct bytes dns_san(const char *text) {
+    size_t n = strlen(text);
+    struct bytes b = zeros(n + 4);
+    memcpy(b.at, (uint8_t[]){0x30, (uint8_t)(n + 2), 0x82, (uint8_t)n}, 4);
+    memcpy(b.at + 4, text, n);
+    return b;
+}
+
+static void every_issuer(void) {
+    struct certificate c = with(S, J, "", record(BECKETHAND_DNS, "", "a.b"));
+    expect("+a.b, +b", UNDER(c, "+a.b", "+b"), 0, 0, 0, 2, 5, 0);
+    expect("+a.b, +c", UNDER(c, "+a.b", "+c"), 2, 0, 0, 0, 0, 1);
+    expect("seven empty strings, +c", UNDER(c, "", "", "", "", "", "", "", "+c"), 2, 0, 0, 0, 0, 7);
+    expect("eight empty strings", UNDER(c, "", "", "", "", "", "", "", ""), 0, 0, 0, 2, 5, 0);
+    expect_zeros("+c, then 30", UNDER(c, "+c", "30"), BECKETHAND_CONSTRAINTS_UNREADABLE);
+    expect_zeros("30, then +c", UNDER(c, "30", "+c"), BECKETHAND_CONSTRAINTS_UNREADABLE);
+    c.references = record(BECKETHAND_DNS, "", "");
+    expect_zeros("nine empty strings: 7 before 6", UNDER(c, "", "", "", "", "", "", "", "", ""), BECKETHAND_INPUT_TOO_LONG);
+    /* the entries `a.b` and `_m.b`: permitted `_n`, then +c; both in one string */
+    c = with("30 19 82 03 61 2E 62 A0 12 " SRV_OID "A0 06 16 04 5F 6D 2E 62", J, "", record(BECKETHAND_DNS, "", "a.b"));
+    expect("_n, then +c", UNDER(c, PERMITS_N, "+c"), 2, 0, 1, 0, 0, 0);
+    expect("+c, then _n", UNDER(c, "+c", PERMITS_N), 2, 0, 0, 0, 0, 0);
+    expect("_n and +c in one string", UNDER(c, "30 1B A0 19 30 12 A0 10 " SRV_OID "A0 04 16 02 5F 6E 30 03 82 01 63"), 2, 0, 0, 0, 0, 0);
+}
+
+/* 6/13: "From C each length is two bytes, high first; an odd count is 7", "a ninth, or lengths with another sum, is 7" */
+static void lengths(void) {
+    struct certificate c = UNDER(with(S, J, "", record(BECKETHAND_DNS, "", "a.b")), "+a.b");
+    static const char *const wrong[] = {"0B 00", "00 0B 00", "0B", "00 0A", "00 0C", "", "00 0B 00 01", "00 05 00 05", "FF FF",
+                                        "00 0B 00 00 00 00 00 00 00 00 00 00 00 00 00 00 00 00"};
+    expect("a length of 11", c, 0, 0, 0, 2, 5, 0);
+    c.lengths = from_hex("00 00 00 0B 00 00");
+    expect("lengths 0, 11 and 0", c, 0, 0, 0, 2, 5, 0);
+    for (size_t k = 0; k < sizeof wrong / sizeof *wrong; k++) {
+        c.lengths = from_hex(wrong[k]);
+        expect_zeros(wrong[k], c, BECKETHAND_INPUT_TOO_LONG);
+    }
+    c = with(S, J, "", record(BECKETHAND_DNS, "", "a.b"));
+    c.lengths = from_hex("00 01");
+    expect_zeros("a length without bytes", c, BECKETHAND_INPUT_TOO_LONG);
+    c.lengths = from_hex("00");
+    expect_zeros("one byte of lengths, and no constraints", c, BECKETHAND_INPUT_TOO_LONG);
+}
+
+/* 6/13: "each keeps its own length limit" */
+static void long_strings(void) {
+    struct certificate c = with(S, J, "", record(BECKETHAND_DNS, "", "a.b"));
+    struct bytes strings[8];
+    for (size_t k = 0; k < 8; k++)
+        strings[k] = one_long_name(BECKETHAND_CONSTRAINTS_LIMIT, "30A03086");
+    expect("eight strings of 16,384 bytes", under(c, 8, strings), 0, 0, 0, 2, 5, 0);
+    strings[5] = one_long_name(BECKETHAND_CONSTRAINTS_LIMIT + 1, "30A03086");
+    expect_zeros("one of 16,385", under(c, 8, strings), BECKETHAND_INPUT_TOO_LONG);
+    strings[5] = from_hex("30");
+    expect_zeros("one that is unreadable", under(c, 8, strings), BECKETHAND_CONSTRAINTS_UNREADABLE);
+}
+
+static void dns_restrictions(void) {
+    struct certificate c = with(S, J, "", record(BECKETHAND_DNS, "", "a.b"));
+    static const char *const bad[] = {"+.b", "+b.", "-*.b.c", "+7", "-a..b", "+_m.b", "-a_b"};
+    for (size_t k = 0; k < sizeof bad / sizeof *bad; k++) {
+        expect_zeros(bad[k], UNDER(c, bad[k]), BECKETHAND_CONSTRAINTS_UNREADABLE);
+        expect_list(bad[k], string_of(bad[k]), BECKETHAND_LIST_CONSTRAINTS, 2, 5, 0, NULL);
+    }
+    const struct beckethand_row every = {BECKETHAND_ROW_DNS, 6, 2, BECKETHAND_EXCLUDED};
+    expect_list("an empty text", string_of("-"), BECKETHAND_LIST_CONSTRAINTS, 2, 0, 1, &every);
+    /* no DNS-ID: it breaks any dNSName subtree, and no SRVName subtree */
+    static const char *const no_ids[] = {"", "*", "*.b", "10.4.0.7"};
+    for (size_t k = 0; k < sizeof no_ids / sizeof *no_ids; k++) {
+        c.san = dns_san(no_ids[k]);
+        expect(no_ids[k], UNDER(c, "+"), 2, 0, 0, 0, 0, 0);
+        expect(no_ids[k], UNDER(c, "-q.r"), 2, 0, 0, 0, 0, 0);
+        expect_zeros(no_ids[k], UNDER(c, "30 16 A1 14 30 12 A0 10 " SRV_OID "A0 04 16 02 5F 6D"), BECKETHAND_MISMATCH);
+    }
+}
+
+/* which subtrees a wildcard lies in, and which excluded ones it breaks */
+static void wildcards(void) {
+    struct certificate c = with("", J, "", record(BECKETHAND_DNS, "", "q.a.b"));
+    static const char *const kept[] = {"+a.b", "+b", "+", "-y.x.a.b", "-xa.b"}, *const broken[] = {"+x.a.b", "-X.A.B", "-a.b", "-b", "-"};
+    c.san = dns_san("*.a.b");
+    for (size_t k = 0; k < sizeof kept / sizeof *kept; k++)
+        expect(kept[k], UNDER(c, kept[k]), 0, 0, 0, 2, 7, 0);
+    for (size_t k = 0; k < sizeof broken / sizeof *broken; k++)
+        expect(broken[k], UNDER(c, "+A.B", broken[k]), 2, 0, 0, 0, 0, 1);
+}
+
+/* 6/13: "The CN stays free", and so do URIs */
+static void free_names(void) {
+    expect("a CN under -", UNDER(with("", J, "", record(BECKETHAND_CN, "", "a.b")), "-"), 0, 0, 0, 4, 12, 0);
+    struct certificate c = with("30 09 86 07 78 3A 2F 2F 61 2E 62", J, "", record(BECKETHAND_URI, "x", "a.b"));
+    expect("a URI under -", UNDER(c, "-"), 0, 0, 0, 2, 9, 0);
 }
 
 int main(void) {
@@ -600,6 +762,12 @@ int main(void) {
     listings();
     kinds_of_rows();
     viewer();
+    every_issuer();
+    lengths();
+    long_strings();
+    dns_restrictions();
+    wildcards();
+    free_names();
     writers();
     printf("C: %d cases, %d failures\n", cases, failures);
     return failures != 0;

@@ -220,9 +220,10 @@ static void read_back(void) {
     cases++;
     check("read back", "listed", beckethand_list(NULL, 0, names, s.length, BECKETHAND_LIST_SAN).count == 2);
     check("read back", "records", beckethand_record_answer(references, w.length, 0) == BECKETHAND_ACCEPTED);
-    check("read back", "match", beckethand_answer(names, s.length, subject, 2, NULL, 0, references, w.length) == BECKETHAND_MATCH);
-    check("read back", "reference", beckethand_reference(names, s.length, subject, 2, NULL, 0, references, w.length) == 1);
-    check("read back", "presented", beckethand_presented(names, s.length, subject, 2, NULL, 0, references, w.length) == 1);
+    struct beckethand_verdict v = beckethand_verdict(names, s.length, subject, 2, NULL, 0, NULL, 0, references, w.length);
+    check("read back", "match", v.answer == BECKETHAND_MATCH);
+    check("read back", "reference", v.reference == 1);
+    check("read back", "presented", v.presented == 1);
 }
 
 void writers(void) {

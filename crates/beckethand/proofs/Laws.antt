@@ -1,21 +1,68 @@
--- A number of a result that is equal to what the rules say is that number of theirs.
+-- The lengths that C hands over; and a number of a result that is equal to what the rules say is that number of theirs.
 use Prim.Native.Nat.{ℕ, _≤_}
 use mathlib.Core.Path.{_≡_, ap, _∙_}
 use mathlib.Core.Bool.{Bool, true, false, cond}
 use mathlib.Core.List.{List}
+use mathlib.Core.Option.{Option, some}
 use native.Mathlib.Omega.{arith}
 use lib.Dec.{eqb}
+use lib.Seq.{length-take-le}
 use Rattle.rules.specs.Numbers.{sanLimit}
-use Rattle.rules.specs.Seen.{Seen, tooLong, unreadable, listed}
+use Rattle.rules.specs.Seen.{Seen, tooLong, unreadable, listed, lengthsFromC, stringsOf, stringsBy}
+use Rattle.rules.specs.Verdict.{numbersOf, witnessPart, withPlace, allNumbers}
 use Rattle.rules.specs.Viewer.{openingOf, numbersAt, viewNumbers}
 use Rattle.rules.specs.declared.Row.{Row}
 use Rattle.rules.specs.declared.Verdict.{Verdict}
 use Rattle.rules.specs.declared.Place.{Place}
+use Rattle.rules.specs.declared.VerdictNumbers.{VerdictNumbers}
+use Rattle.rules.specs.declared.Outcome.{Outcome}
 use Rattle.rules.specs.declared.Shown.{Shown}
 use Rattle.rules.specs.declared.Sight.the-variants.{Name, End}
 use Rattle.rules.specs.declared.View.{View}
 use Rattle.rules.specs.declared.ViewNumbers.{ViewNumbers}
-use Rattle.reading.specs.Calls.{refusalOf, seenRows, openingOn}
+use Rattle.reading.specs.Calls.{Inputs, inputs, seenIssuers, outcomeOn, verdictOn, witnessPartOn, refusalOf, seenRows, openingOn}
+use Rattle.verdict.specs.Judging.{Small, SmallNumbers, SmallPlace, numbers-small, part-small}
+
+-- ---- the outcome, by the lengths that C hands over
+
+module _ (S J C R : List ℕ) where
+  -- of the lengths an outcome depends on the strings that they cut, and on nothing else
+  pub same-strings : (l m : Option (List ℕ)) → stringsBy l C ≡ stringsBy m C → outcomeOn (inputs S J C l R) ≡ outcomeOn (inputs S J C m R)
+  unfolding outcomeOn seenIssuers
+  same-strings l m e = rw e
+
+  pub outcome-by : (b l : List ℕ) → ((bytes : List ℕ) → stringsOf l bytes ≡ stringsBy (lengthsFromC b) bytes)
+      → (o : Outcome) → o ≡ outcomeOn (inputs S J C (some l) R) → o ≡ outcomeOn (inputs S J C (lengthsFromC b) R)
+  unfolding stringsBy
+  outcome-by b l e o f = f ∙ same-strings (some l) (lengthsFromC b) (e C)
+
+module _ (S J : List ℕ) (o : Outcome) (small : Small S J o) where
+  pub numbers-are-small : (v : Verdict) → v ≡ numbersOf o → SmallNumbers v
+  numbers-are-small v e = rw e (numbers-small S J o small)
+
+  pub place-is-small : (p : Place) → p ≡ witnessPart o → SmallPlace p
+  place-is-small p e = rw e (part-small S J o small)
+
+module _ (i : Inputs) (o : Outcome) (o-is : o ≡ outcomeOn i) where
+  pub numbers-by : (v : Verdict) → v ≡ numbersOf o → v ≡ verdictOn i
+  unfolding verdictOn
+  numbers-by v e = e ∙ ap numbersOf o-is
+
+  pub place-by : (p : Place) → p ≡ witnessPart o → p ≡ witnessPartOn i
+  unfolding witnessPartOn
+  place-by p e = e ∙ ap witnessPart o-is
+
+  -- all numbers are those of one outcome
+  pub all-by : (v : Verdict) → v ≡ numbersOf o → (p : Place) → p ≡ witnessPart o → (r : VerdictNumbers) → r ≡ withPlace v p → r ≡ allNumbers (outcomeOn i)
+  unfolding allNumbers
+  all-by v e p f r g = g ∙ rw (e, f, o-is)
+
+pub with-place : (v : Verdict) (p : Place) (a b c d l k t n : ℕ)
+    → a ≡ v .answer → b ≡ v .reference → c ≡ v .presented → d ≡ v .start → l ≡ v .length → k ≡ v .issuer → t ≡ p .start → n ≡ p .length
+    → record { answer = a; reference = b; presented = c; start = d; length = l; issuer = k; «text_start» = t; «text_length» = n } ≡ withPlace v p
+with-place v p a b c d l k t n ea eb ec ed el ek et en = rw (ea, eb, ec, ed, el, ek, et, en)
+
+-- ---- one number
 
 module _ (v w : Verdict) (e : v ≡ w) (n : ℕ) where
   pub answer-of : n ≡ v .answer → n ≡ w .answer
@@ -32,6 +79,9 @@ module _ (v w : Verdict) (e : v ≡ w) (n : ℕ) where
 
   pub length-of : n ≡ v .length → n ≡ w .length
   length-of f = f ∙ ap (λ (x : Verdict). x .length) e
+
+  pub issuer-of : n ≡ v .issuer → n ≡ w .issuer
+  issuer-of f = f ∙ ap (λ (x : Verdict). x .issuer) e
 
 module _ (p q : Place) (e : p ≡ q) (n : ℕ) where
   pub text-start-of : n ≡ p .start → n ≡ q .start
@@ -80,11 +130,20 @@ pub numbers-same : (v w : View) → v ≡ w → (n : ViewNumbers) → n ≡ view
 numbers-same v w e n f = f ∙ ap viewNumbers e
 
 pub ruleset laws = (
+  length-take-le,
+  outcome-by,
+  numbers-are-small,
+  place-is-small,
+  numbers-by,
+  place-by,
+  all-by,
+  with-place,
   answer-of,
   reference-of,
   presented-of,
   start-of,
   length-of,
+  issuer-of,
   text-start-of,
   text-length-of,
   record-answer-of,

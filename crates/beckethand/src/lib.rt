@@ -1,13 +1,21 @@
-// What a C program calls: include/beckethand.h says each call in words. A slice is a pointer and a length, and each function on
-// the four slices answers one number of the verdict.
+// What a C program calls: include/beckethand.h says each call in words. A slice is a pointer and a length. Each function of a verdict
+// takes the four strings and the lengths of the constraints, and answers one number, or all of them.
+use issuers::lengths_from_c;
+use rules::Outcome;
+use rules::Place;
+use rules::Verdict;
+use rules::VerdictNumbers;
 ghost use Prim.Native.Nat.{_≤_};
 ghost use mathlib.Core.Path.{_≡_};
 ghost use lib.ListN.{length};
 ghost use Rattle.rules.specs.Numbers.{sanLimit};
 ghost use Rattle.rules.specs.Records.{shown};
+ghost use Rattle.rules.specs.Seen.{lengthsFromC};
+ghost use Rattle.rules.specs.Verdict.{withPlace, allNumbers};
 ghost use Rattle.rules.specs.Viewer.{viewNumbers};
 ghost use Rattle.rules.specs.Writing.{request, sanWriter, recordWriter, writtenBy, bufferBy};
-ghost use Rattle.reading.specs.Calls.{inputs, verdictOn, witnessPartOn, listingOn, tableOn, openingOn, viewOn};
+ghost use Rattle.reading.specs.Calls.{inputs, outcomeOn, verdictOn, witnessPartOn, listingOn, tableOn, openingOn, viewOn};
+ghost use Rattle.verdict.specs.Judging.{Small, SmallNumbers, SmallPlace};
 
 // A number that fits.
 fn narrow(n: usize) -> u32
@@ -17,17 +25,100 @@ fn narrow(n: usize) -> u32
     n as u32
 }
 
+// How the verdict ends, by the lengths that C hands over.
+fn outcome_by(
+    san: &[u8],
+    subject: &[u8],
+    constraints: &[u8],
+    lengths: &[u8],
+    references: &[u8],
+) -> Outcome
+    ensures { λ r. ⌜ (r ≡ outcomeOn (inputs (now (san .entry)) (now (subject .entry)) (now (constraints .entry)) (lengthsFromC (now (lengths .entry))) (now (references .entry))))
+        × Small (now (san .entry)) (now (subject .entry)) r ⌝ }
+{
+    let l = lengths_from_c(lengths);
+    let count = l.count;
+    let values = l.values;
+    verdict::outcome(san, subject, constraints, &values[..count], references)
+}
+
+// Its six numbers.
+fn numbers_by(
+    san: &[u8],
+    subject: &[u8],
+    constraints: &[u8],
+    lengths: &[u8],
+    references: &[u8],
+) -> Verdict
+    ensures { λ r. ⌜ (r ≡ verdictOn (inputs (now (san .entry)) (now (subject .entry)) (now (constraints .entry)) (lengthsFromC (now (lengths .entry))) (now (references .entry))))
+        × SmallNumbers r ⌝ }
+{
+    let o = outcome_by(san, subject, constraints, lengths, references);
+    verdict::numbers(o)
+}
+
+// Where the witness's text lies.
+fn place_by(
+    san: &[u8],
+    subject: &[u8],
+    constraints: &[u8],
+    lengths: &[u8],
+    references: &[u8],
+) -> Place
+    ensures { λ r. ⌜ (r ≡ witnessPartOn (inputs (now (san .entry)) (now (subject .entry)) (now (constraints .entry)) (lengthsFromC (now (lengths .entry))) (now (references .entry))))
+        × SmallPlace r ⌝ }
+{
+    let o = outcome_by(san, subject, constraints, lengths, references);
+    verdict::text_of(o)
+}
+
+// The numbers and the text's place side by side.
+fn with_place(v: Verdict, text: Place) -> VerdictNumbers
+    requires { ⌜ SmallNumbers v ⌝ }
+    requires { ⌜ SmallPlace text ⌝ }
+    ensures { λ r. ⌜ r ≡ withPlace v text ⌝ }
+{
+    VerdictNumbers {
+        answer: narrow(v.answer),
+        reference: narrow(v.reference),
+        presented: narrow(v.presented),
+        start: narrow(v.start),
+        length: narrow(v.length),
+        issuer: narrow(v.issuer),
+        text_start: narrow(text.start),
+        text_length: narrow(text.length),
+    }
+}
+
+// All numbers, from one outcome.
+#[no_mangle]
+pub extern "C" fn beckethand_verdict(
+    san: &[u8],
+    subject: &[u8],
+    constraints: &[u8],
+    lengths: &[u8],
+    references: &[u8],
+) -> VerdictNumbers
+    ensures { λ r. ⌜ r ≡ allNumbers (outcomeOn (inputs (now (san .entry)) (now (subject .entry)) (now (constraints .entry)) (lengthsFromC (now (lengths .entry))) (now (references .entry)))) ⌝ }
+{
+    let o = outcome_by(san, subject, constraints, lengths, references);
+    let v = verdict::numbers(o);
+    let text = verdict::text_of(o);
+    with_place(v, text)
+}
+
 // The verdict's answer.
 #[no_mangle]
 pub extern "C" fn beckethand_answer(
     san: &[u8],
     subject: &[u8],
     constraints: &[u8],
+    lengths: &[u8],
     references: &[u8],
 ) -> u32
-    ensures { λ r. ⌜ r ≡ verdictOn (inputs (now (san .entry)) (now (subject .entry)) (now (constraints .entry)) (now (references .entry))) .answer ⌝ }
+    ensures { λ r. ⌜ r ≡ verdictOn (inputs (now (san .entry)) (now (subject .entry)) (now (constraints .entry)) (lengthsFromC (now (lengths .entry))) (now (references .entry))) .answer ⌝ }
 {
-    let v = verdict::verdict(san, subject, constraints, references);
+    let v = numbers_by(san, subject, constraints, lengths, references);
     narrow(v.answer)
 }
 
@@ -37,25 +128,27 @@ pub extern "C" fn beckethand_reference(
     san: &[u8],
     subject: &[u8],
     constraints: &[u8],
+    lengths: &[u8],
     references: &[u8],
 ) -> u32
-    ensures { λ r. ⌜ r ≡ verdictOn (inputs (now (san .entry)) (now (subject .entry)) (now (constraints .entry)) (now (references .entry))) .reference ⌝ }
+    ensures { λ r. ⌜ r ≡ verdictOn (inputs (now (san .entry)) (now (subject .entry)) (now (constraints .entry)) (lengthsFromC (now (lengths .entry))) (now (references .entry))) .reference ⌝ }
 {
-    let v = verdict::verdict(san, subject, constraints, references);
+    let v = numbers_by(san, subject, constraints, lengths, references);
     narrow(v.reference)
 }
 
-// The index of the presented identifier that it matches, or of the first SRVName that breaks the constraints.
+// The index of the presented identifier that it matches, or of the first that breaks the constraints of an issuer.
 #[no_mangle]
 pub extern "C" fn beckethand_presented(
     san: &[u8],
     subject: &[u8],
     constraints: &[u8],
+    lengths: &[u8],
     references: &[u8],
 ) -> u32
-    ensures { λ r. ⌜ r ≡ verdictOn (inputs (now (san .entry)) (now (subject .entry)) (now (constraints .entry)) (now (references .entry))) .presented ⌝ }
+    ensures { λ r. ⌜ r ≡ verdictOn (inputs (now (san .entry)) (now (subject .entry)) (now (constraints .entry)) (lengthsFromC (now (lengths .entry))) (now (references .entry))) .presented ⌝ }
 {
-    let v = verdict::verdict(san, subject, constraints, references);
+    let v = numbers_by(san, subject, constraints, lengths, references);
     narrow(v.presented)
 }
 
@@ -65,11 +158,12 @@ pub extern "C" fn beckethand_start(
     san: &[u8],
     subject: &[u8],
     constraints: &[u8],
+    lengths: &[u8],
     references: &[u8],
 ) -> u32
-    ensures { λ r. ⌜ r ≡ verdictOn (inputs (now (san .entry)) (now (subject .entry)) (now (constraints .entry)) (now (references .entry))) .start ⌝ }
+    ensures { λ r. ⌜ r ≡ verdictOn (inputs (now (san .entry)) (now (subject .entry)) (now (constraints .entry)) (lengthsFromC (now (lengths .entry))) (now (references .entry))) .start ⌝ }
 {
-    let v = verdict::verdict(san, subject, constraints, references);
+    let v = numbers_by(san, subject, constraints, lengths, references);
     narrow(v.start)
 }
 
@@ -79,12 +173,28 @@ pub extern "C" fn beckethand_length(
     san: &[u8],
     subject: &[u8],
     constraints: &[u8],
+    lengths: &[u8],
     references: &[u8],
 ) -> u32
-    ensures { λ r. ⌜ r ≡ verdictOn (inputs (now (san .entry)) (now (subject .entry)) (now (constraints .entry)) (now (references .entry))) .length ⌝ }
+    ensures { λ r. ⌜ r ≡ verdictOn (inputs (now (san .entry)) (now (subject .entry)) (now (constraints .entry)) (lengthsFromC (now (lengths .entry))) (now (references .entry))) .length ⌝ }
 {
-    let v = verdict::verdict(san, subject, constraints, references);
+    let v = numbers_by(san, subject, constraints, lengths, references);
     narrow(v.length)
+}
+
+// The index of the issuer whose constraints are broken.
+#[no_mangle]
+pub extern "C" fn beckethand_issuer(
+    san: &[u8],
+    subject: &[u8],
+    constraints: &[u8],
+    lengths: &[u8],
+    references: &[u8],
+) -> u32
+    ensures { λ r. ⌜ r ≡ verdictOn (inputs (now (san .entry)) (now (subject .entry)) (now (constraints .entry)) (lengthsFromC (now (lengths .entry))) (now (references .entry))) .issuer ⌝ }
+{
+    let v = numbers_by(san, subject, constraints, lengths, references);
+    narrow(v.issuer)
 }
 
 // Where the witness's text starts.
@@ -93,11 +203,12 @@ pub extern "C" fn beckethand_text_start(
     san: &[u8],
     subject: &[u8],
     constraints: &[u8],
+    lengths: &[u8],
     references: &[u8],
 ) -> u32
-    ensures { λ r. ⌜ r ≡ witnessPartOn (inputs (now (san .entry)) (now (subject .entry)) (now (constraints .entry)) (now (references .entry))) .start ⌝ }
+    ensures { λ r. ⌜ r ≡ witnessPartOn (inputs (now (san .entry)) (now (subject .entry)) (now (constraints .entry)) (lengthsFromC (now (lengths .entry))) (now (references .entry))) .start ⌝ }
 {
-    let p = verdict::text_place(san, subject, constraints, references);
+    let p = place_by(san, subject, constraints, lengths, references);
     narrow(p.start)
 }
 
@@ -107,11 +218,12 @@ pub extern "C" fn beckethand_text_length(
     san: &[u8],
     subject: &[u8],
     constraints: &[u8],
+    lengths: &[u8],
     references: &[u8],
 ) -> u32
-    ensures { λ r. ⌜ r ≡ witnessPartOn (inputs (now (san .entry)) (now (subject .entry)) (now (constraints .entry)) (now (references .entry))) .length ⌝ }
+    ensures { λ r. ⌜ r ≡ witnessPartOn (inputs (now (san .entry)) (now (subject .entry)) (now (constraints .entry)) (lengthsFromC (now (lengths .entry))) (now (references .entry))) .length ⌝ }
 {
-    let p = verdict::text_place(san, subject, constraints, references);
+    let p = place_by(san, subject, constraints, lengths, references);
     narrow(p.length)
 }
 
