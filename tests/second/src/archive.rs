@@ -33,28 +33,45 @@ pub struct CWritten {
     pub length: usize,
 }
 
-/// Declares one number of the verdict: a C function on four slices.
-macro_rules! on_four_slices {
-    ($($function:ident)*) => {
+/// All numbers of a verdict, as C sees them.
+#[repr(C)]
+#[derive(Clone, Copy, Debug, PartialEq, Eq)]
+pub struct CVerdict {
+    pub answer: u32,
+    pub reference: u32,
+    pub presented: u32,
+    pub start: u32,
+    pub length: u32,
+    pub issuer: u32,
+    pub text_start: u32,
+    pub text_length: u32,
+}
+
+/// Declares C functions on the five slices of a verdict.
+macro_rules! on_five_slices {
+    ($($function:ident -> $result:ty;)*) => {
         extern "C" {
             $(fn $function(
                 san: *const u8, san_len: usize,
                 subject: *const u8, subject_len: usize,
                 constraints: *const u8, constraints_len: usize,
+                lengths: *const u8, lengths_len: usize,
                 references: *const u8, references_len: usize,
-            ) -> u32;)*
+            ) -> $result;)*
         }
     };
 }
 
-on_four_slices! {
-    beckethand_answer
-    beckethand_reference
-    beckethand_presented
-    beckethand_start
-    beckethand_length
-    beckethand_text_start
-    beckethand_text_length
+on_five_slices! {
+    beckethand_answer -> u32;
+    beckethand_reference -> u32;
+    beckethand_presented -> u32;
+    beckethand_start -> u32;
+    beckethand_length -> u32;
+    beckethand_issuer -> u32;
+    beckethand_text_start -> u32;
+    beckethand_text_length -> u32;
+    beckethand_verdict -> CVerdict;
 }
 
 /// Declares a writer: a C function on a lent buffer and three lists.
@@ -121,21 +138,24 @@ fn lent<T>(items: &mut [T]) -> (*mut T, usize) {
     }
 }
 
-/// The four inputs, as they are handed to the archive.
+/// The inputs, as they are handed to the archive. The lengths of the constraint
+/// strings have two bytes each, high first.
 #[derive(Clone, Copy, Debug)]
 pub struct Inputs<'a> {
     pub san: &'a [u8],
     pub subject: &'a [u8],
     pub constraints: &'a [u8],
+    pub lengths: &'a [u8],
     pub references: &'a [u8],
 }
 
-/// Calls one function on the four slices.
+/// Calls one function on the five slices.
 macro_rules! call {
     ($function:ident, $inputs:expr) => {{
         let (san, san_len) = pair($inputs.san);
         let (subject, subject_len) = pair($inputs.subject);
         let (constraints, constraints_len) = pair($inputs.constraints);
+        let (lengths, lengths_len) = pair($inputs.lengths);
         let (references, references_len) = pair($inputs.references);
         // SAFETY: each pointer comes from a slice of the length beside it, or
         // is NULL with length 0, and outlives the call.
@@ -147,6 +167,8 @@ macro_rules! call {
                 subject_len,
                 constraints,
                 constraints_len,
+                lengths,
+                lengths_len,
                 references,
                 references_len,
             )
@@ -159,7 +181,7 @@ pub fn answer(inputs: Inputs) -> u32 {
     call!(beckethand_answer, inputs)
 }
 
-/// The five numbers and the place of the witness's text: seven calls.
+/// The six numbers and the place of the witness's text: eight calls.
 pub fn judge(inputs: Inputs) -> Outcome {
     let verdict = Verdict {
         answer: answer(inputs),
@@ -167,10 +189,29 @@ pub fn judge(inputs: Inputs) -> Outcome {
         presented: call!(beckethand_presented, inputs),
         start: call!(beckethand_start, inputs),
         length: call!(beckethand_length, inputs),
+        issuer: call!(beckethand_issuer, inputs),
     };
     let text = Place {
         start: call!(beckethand_text_start, inputs),
         length: call!(beckethand_text_length, inputs),
+    };
+    Outcome { verdict, text }
+}
+
+/// The same by one call.
+pub fn judge_at_once(inputs: Inputs) -> Outcome {
+    let all: CVerdict = call!(beckethand_verdict, inputs);
+    let verdict = Verdict {
+        answer: all.answer,
+        reference: all.reference,
+        presented: all.presented,
+        start: all.start,
+        length: all.length,
+        issuer: all.issuer,
+    };
+    let text = Place {
+        start: all.text_start,
+        length: all.text_length,
     };
     Outcome { verdict, text }
 }

@@ -1,4 +1,4 @@
-//! The issuer's nameConstraints.
+//! One issuer's nameConstraints.
 
 use crate::der::{Cursor, Element};
 use crate::general_name;
@@ -14,17 +14,26 @@ const SEQUENCE: u8 = 0x30;
 const PERMITTED_TAG: u8 = 0xA0;
 const EXCLUDED_TAG: u8 = 0xA1;
 
-/// Visits each subtree in order; its group is its side. "An SRVName here has
-/// one of three texts". `None` is a string of constraints that is unreadable;
-/// some of its subtrees may have been visited.
+/// Visits each subtree in order; its group is its side. `None` is a string of
+/// constraints that is unreadable; some of its subtrees may have been visited.
 pub fn read<'a>(bytes: &'a [u8], mut visit: impl FnMut(Name<'a>)) -> Option<()> {
     walk(bytes, |subtree| {
-        if subtree.row.kind == kind::SRV && !text::is_srv_subtree(subtree.text) {
+        if !fits(subtree) {
             return None;
         }
         visit(subtree);
         Some(())
     })
+}
+
+/// "An SRVName here has one of three texts"; request 6/13, of a dNSName: "an
+/// empty text contains every name; any other text must be a domain, else 5."
+fn fits(subtree: Name<'_>) -> bool {
+    match subtree.row.kind {
+        kind::SRV => text::is_srv_subtree(subtree.text),
+        kind::DNS => text::is_dns_subtree(subtree.text),
+        _ => true,
+    }
 }
 
 /// Visits each subtree in order without a look at the texts, up to the first
@@ -64,62 +73,95 @@ fn walk_side<'a>(
     }
 }
 
-/// Which sides hold an SRVName subtree.
-#[derive(Clone, Copy, Debug, Default)]
-pub struct SrvSides {
-    pub permitted: bool,
-    pub excluded: bool,
+/// The subtrees of one form, by side.
+#[derive(Clone, Debug, Default)]
+struct Subtrees<'a> {
+    permitted: Vec<&'a [u8]>,
+    excluded: Vec<&'a [u8]>,
 }
 
-impl SrvSides {
-    /// Reads the whole string.
-    pub fn read(bytes: &[u8]) -> Option<Self> {
-        let mut sides = SrvSides::default();
-        read(bytes, |subtree| {
-            if subtree.row.kind == kind::SRV {
-                sides.permitted |= subtree.row.group == PERMITTED;
-                sides.excluded |= subtree.row.group == EXCLUDED;
-            }
-        })?;
-        Some(sides)
-    }
-}
-
-/// The index of the first entry of a readable SAN that breaks readable
-/// constraints. "if the constraints hold any SRVName subtree, each presented
-/// SRVName must be an SRV-ID, lie in no excluded SRVName subtree, and, if any
-/// permitted SRVName subtree exists, lie in one." Request 2/13: "This holds for
-/// [...] SRVNames (no SRV-ID, so 2 where SRVName subtrees exist)."
-pub fn first_broken(san: &[u8], constraints: &[u8], sides: SrvSides) -> Option<usize> {
-    if !(sides.permitted || sides.excluded) {
-        return None;
-    }
-    let mut broken = None;
-    let _readable = san::read(san, |entry| {
-        if broken.is_none() && entry.row.kind == kind::SRV && !keeps(entry.text, constraints, sides)
-        {
-            broken = Some(entry.row.group);
-        }
-    });
-    broken
-}
-
-/// Whether one presented SRVName keeps the constraints.
-fn keeps(presented: &[u8], constraints: &[u8], sides: SrvSides) -> bool {
-    let Some(srv_id) = text::srv_id(presented) else {
-        return false;
-    };
-    let mut permitted = !sides.permitted;
-    let mut excluded = false;
-    let _stopped = walk(constraints, |subtree| {
-        if subtree.row.kind != kind::SRV {
-            return Some(());
-        }
+impl<'a> Subtrees<'a> {
+    fn push(&mut self, subtree: Name<'a>) {
         match subtree.row.group {
-            PERMITTED => permitted = permitted || text::lies_in(srv_id, subtree.text),
-            _ => excluded = text::lies_in(srv_id, subtree.text),
+            PERMITTED => self.permitted.push(subtree.text),
+            _ => self.excluded.push(subtree.text),
         }
-        (!excluded).then_some(())
-    });
-    permitted && !excluded
+    }
+
+    fn is_empty(&self) -> bool {
+        self.permitted.is_empty() && self.excluded.is_empty()
+    }
+
+    /// Whether a name breaks no excluded subtree "and, if any permitted [...]
+    /// subtree exists", lies in one.
+    fn hold(&self, lies_in: impl Fn(&[u8]) -> bool, breaks: impl Fn(&[u8]) -> bool) -> bool {
+        let excluded = self.excluded.iter().any(|subtree| breaks(subtree));
+        let permitted = || self.permitted.iter().any(|subtree| lies_in(subtree));
+        !excluded && (self.permitted.is_empty() || permitted())
+    }
+}
+
+/// What one string asks of names. "Other forms in the constraints are read and
+/// passed over."
+#[derive(Clone, Debug, Default)]
+pub struct Restrictions<'a> {
+    srv: Subtrees<'a>,
+    dns: Subtrees<'a>,
+}
+
+impl<'a> Restrictions<'a> {
+    /// Reads the whole string.
+    pub fn read(bytes: &'a [u8]) -> Option<Self> {
+        let mut restrictions = Restrictions::default();
+        read(bytes, |subtree| match subtree.row.kind {
+            kind::SRV => restrictions.srv.push(subtree),
+            kind::DNS => restrictions.dns.push(subtree),
+            _ => {}
+        })?;
+        Some(restrictions)
+    }
+
+    /// The index of the first entry of a readable SAN, of either form, that
+    /// breaks the string.
+    pub fn first_broken(&self, san: &[u8]) -> Option<usize> {
+        if self.srv.is_empty() && self.dns.is_empty() {
+            return None;
+        }
+        let mut broken = None;
+        let _readable = san::read(san, |entry| {
+            if broken.is_none() && !self.keeps(entry) {
+                broken = Some(entry.row.group);
+            }
+        });
+        broken
+    }
+
+    /// Whether one entry keeps the string. URIs and all other forms do.
+    fn keeps(&self, entry: Name<'_>) -> bool {
+        match entry.row.kind {
+            kind::SRV => self.srv.is_empty() || self.keeps_srv_name(entry.text),
+            kind::DNS => self.dns.is_empty() || self.keeps_dns_name(entry.text),
+            _ => true,
+        }
+    }
+
+    /// "if the constraints hold any SRVName subtree, each presented SRVName must
+    /// be an SRV-ID, lie in no excluded SRVName subtree, and, if any permitted
+    /// SRVName subtree exists, lie in one." Request 2/13: "This holds for [...]
+    /// SRVNames (no SRV-ID, so 2 where SRVName subtrees exist)."
+    fn keeps_srv_name(&self, presented: &[u8]) -> bool {
+        text::srv_id(presented).is_some_and(|srv_id| {
+            let lies_in = |subtree: &[u8]| text::lies_in(srv_id, subtree);
+            self.srv.hold(lies_in, lies_in)
+        })
+    }
+
+    /// Request 6/13: "Add dNSName subtrees [...], permitted and excluded as for
+    /// SRVNames [...] With any dNSName subtree in a string, a dNSName that is no
+    /// DNS-ID breaks it."
+    fn keeps_dns_name(&self, presented: &[u8]) -> bool {
+        let lies_in = |subtree: &[u8]| text::dns_lies_in(presented, subtree);
+        let breaks = |subtree: &[u8]| text::dns_breaks(presented, subtree);
+        text::is_dns_id(presented) && self.dns.hold(lies_in, breaks)
+    }
 }

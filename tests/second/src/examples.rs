@@ -1,23 +1,26 @@
 //! The desk examples and the old faults of document 01, and the examples of
-//! requests 1/13 to 3/13, as one numbered table. P1 to P16 are the document's
-//! numbers; D1 on are the desk examples without a number, in order; F1 to F5 the
-//! old faults, in order; L1 on the examples of request 1/13, about labels; A1 on
-//! those of request 2/13, about addresses; V1 on strings for the viewer of
-//! request 3/13.
+//! requests 1/13 to 3/13 and 6/13, as one numbered table. P1 to P16 are the
+//! document's numbers; D1 on are the desk examples without a number, in order; F1
+//! to F5 the old faults, in order; L1 on the examples of request 1/13, about
+//! labels; A1 on those of request 2/13, about addresses; V1 on strings for the
+//! viewer of request 3/13; I1 on those of request 6/13, about issuers and
+//! dNSName subtrees.
 
-use crate::generate::Case;
+pub mod issuers;
+
+use crate::generate::{Case, Chain};
 use crate::records::kind::{CN, DNS, SRV, URI};
 use crate::tree::{
     common_name, constraints, dns_name, email, rdn, record, san, srv_name, subject, subtree,
     uri_name, Node,
 };
 
-/// One line of the table: inputs, and the five numbers of the verdict.
+/// One line of the table: inputs, and the six numbers of the verdict.
 #[derive(Clone)]
 pub struct Example {
     pub number: String,
     pub case: Case,
-    pub verdict: [u32; 5],
+    pub verdict: [u32; 6],
 }
 
 /// "S is `30 05 82 03 61 2E 62`"
@@ -77,10 +80,11 @@ pub fn table() -> Vec<Example> {
     table.extend(address_srv_names());
     table.extend(address_restrictions());
     table.extend(viewed());
+    table.extend(issuers::table());
     table
 }
 
-fn example(number: &str, case: Case, verdict: [u32; 5]) -> Example {
+fn example(number: &str, case: Case, verdict: [u32; 6]) -> Example {
     Example {
         number: number.to_string(),
         case,
@@ -93,14 +97,14 @@ fn case(san: Vec<u8>, references: Vec<u8>) -> Case {
     Case {
         san,
         subject: J.to_vec(),
-        constraints: Vec::new(),
+        constraints: Chain::default(),
         references,
     }
 }
 
 /// A verdict with zeros after its answer.
-fn bare(answer: u32) -> [u32; 5] {
-    [answer, 0, 0, 0, 0]
+fn bare(answer: u32) -> [u32; 6] {
+    [answer, 0, 0, 0, 0, 0]
 }
 
 /// The reference that an SRVName's text asks for.
@@ -113,7 +117,7 @@ fn srv_reference(name: &str) -> Vec<u8> {
 fn restricted(restriction: &str, name: &str) -> Case {
     let permitted = vec![subtree(srv_name(restriction.as_bytes()))];
     Case {
-        constraints: constraints(permitted, Vec::new()).write(),
+        constraints: constraints(permitted, Vec::new()).write().into(),
         ..case(
             san(vec![srv_name(name.as_bytes())]).write(),
             srv_reference(name),
@@ -128,7 +132,7 @@ fn restrictions() -> Vec<Example> {
         let case = restricted(restriction, name);
         let length = case.san.len() as u32 - 2;
         let verdict = if *inside {
-            [0, 0, 0, 2, length]
+            [0, 0, 0, 2, length, 0]
         } else {
             bare(2)
         };
@@ -142,7 +146,7 @@ fn dns(number: &str, presented: &str, reference: &str, matches: bool) -> Example
     let san = san(vec![dns_name(presented.as_bytes())]).write();
     let length = presented.len() as u32 + 2;
     let verdict = if matches {
-        [0, 0, 0, 2, length]
+        [0, 0, 0, 2, length, 0]
     } else {
         bare(1)
     };
@@ -190,16 +194,16 @@ fn written_out() -> Vec<Example> {
         example(
             "P16",
             case(S.to_vec(), record(DNS, b"", b"A.B")),
-            [0, 0, 0, 2, 5],
+            [0, 0, 0, 2, 5, 0],
         ),
-        example("D1", case(Vec::new(), cn.clone()), [0, 0, 0, 4, 12]),
+        example("D1", case(Vec::new(), cn.clone()), [0, 0, 0, 4, 12, 0]),
         example("D2", case(vec![0x30, 0x02, 0x82, 0x00], cn), bare(1)),
         example("D3", case(long_form, dns.clone()), bare(3)),
         example("D4", case(vec![0x30, 0x00], dns), bare(3)),
     ];
     let [alone, kept, broken] = under_constraints(&SRV_SAN, b"b.c");
-    table.push(example("D5", alone, [0, 0, 0, 2, 22]));
-    table.push(example("D6", kept, [0, 0, 0, 2, 22]));
+    table.push(example("D5", alone, [0, 0, 0, 2, 22, 0]));
+    table.push(example("D6", kept, [0, 0, 0, 2, 22, 0]));
     table.push(example("D7", broken, bare(2)));
     let [alone, kept, broken] = under_constraints(&OLD_SRV_SAN, b"b");
     table.push(example("D5: one label", alone, bare(6)));
@@ -213,11 +217,11 @@ fn written_out() -> Vec<Example> {
 fn under_constraints(san: &[u8], domain: &[u8]) -> [Case; 3] {
     let alone = case(san.to_vec(), record(SRV, b"m", domain));
     let kept = Case {
-        constraints: SRV_CONSTRAINTS.to_vec(),
+        constraints: SRV_CONSTRAINTS.to_vec().into(),
         ..alone.clone()
     };
     let mut broken = kept.clone();
-    broken.constraints[23] = 0x6E;
+    broken.constraints.bytes[23] = 0x6E;
     [alone, kept, broken]
 }
 
@@ -240,13 +244,13 @@ pub fn domain_of(length: usize) -> Vec<u8> {
 fn sizes() -> Vec<Example> {
     let above = |length| [vec![b'l'; length].as_slice(), b".b"].concat();
     let mut table = vec![
-        same_domain("D8: label of 63", &above(63), [0, 0, 0, 2, 67]),
+        same_domain("D8: label of 63", &above(63), [0, 0, 0, 2, 67, 0]),
         same_domain("D8: label of 64", &above(64), bare(6)),
         same_domain("D8: label of 63 alone", &[b'l'; 63], bare(6)),
-        same_domain("D8: domain of 253", &domain_of(253), [0, 0, 0, 4, 256]),
+        same_domain("D8: domain of 253", &domain_of(253), [0, 0, 0, 4, 256, 0]),
         same_domain("D8: domain of 254", &domain_of(254), bare(6)),
     ];
-    for (count, verdict) in [(16, [0, 0, 0, 2, 5]), (17, bare(7))] {
+    for (count, verdict) in [(16, [0, 0, 0, 2, 5, 0]), (17, bare(7))] {
         let references = record(DNS, b"", b"a.b").repeat(count);
         table.push(example(
             &format!("D8: {count} records"),
@@ -260,14 +264,14 @@ fn sizes() -> Vec<Example> {
         table.push(example(
             &format!("D8: length {length}"),
             case,
-            [0, 0, 1, start, 5],
+            [0, 0, 1, start, 5, 0],
         ));
     }
     table
 }
 
 /// The same text as presented name and as reference.
-fn same_domain(number: &str, text: &[u8], verdict: [u32; 5]) -> Example {
+fn same_domain(number: &str, text: &[u8], verdict: [u32; 6]) -> Example {
     let san = san(vec![dns_name(text)]).write();
     example(number, case(san, record(DNS, b"", text)), verdict)
 }
@@ -282,7 +286,7 @@ fn old_faults() -> Vec<Example> {
     )];
     let inside = restricted("host.branch.example", "_m.www.host.branch.example");
     let length = inside.san.len() as u32 - 2;
-    faults.push(example("F1: inside", inside, [0, 0, 0, 2, length]));
+    faults.push(example("F1: inside", inside, [0, 0, 0, 2, length, 0]));
     let cut = Case {
         subject: subject(vec![rdn(vec![common_name(0x0C, b"a.b\0.c")])]).write(),
         ..case(Vec::new(), record(CN, b"", b"a.b"))
@@ -291,7 +295,7 @@ fn old_faults() -> Vec<Example> {
     faults.push(example(
         "F3",
         excused(vec![dns_name(b"a.b"), srv_name(b"_n.b")]),
-        [2, 0, 1, 0, 0],
+        [2, 0, 1, 0, 0, 0],
     ));
     faults.push(example(
         "F3: no SRV-ID",
@@ -300,14 +304,14 @@ fn old_faults() -> Vec<Example> {
     ));
     let san = san(vec![dns_name(b"c.d"), dns_name(b"a.b")]).write();
     let references = [record(DNS, b"", b"a.b"), record(DNS, b"", b"c.d")].concat();
-    faults.push(example("F4", case(san, references), [0, 0, 1, 7, 5]));
+    faults.push(example("F4", case(san, references), [0, 0, 1, 7, 5, 0]));
     faults
 }
 
 /// A DNS reference that matches, and constraints that permit only service m.
 fn excused(entries: Vec<Node>) -> Case {
     Case {
-        constraints: SRV_CONSTRAINTS.to_vec(),
+        constraints: SRV_CONSTRAINTS.to_vec().into(),
         ..case(san(entries).write(), record(DNS, b"", b"a.b"))
     }
 }
@@ -318,7 +322,7 @@ fn named(value: &str) -> Vec<u8> {
 }
 
 /// No SAN, one CN and one CN reference.
-fn cn(number: &str, value: &str, reference: &str, verdict: [u32; 5]) -> Example {
+fn cn(number: &str, value: &str, reference: &str, verdict: [u32; 6]) -> Example {
     let case = Case {
         subject: named(value),
         ..case(Vec::new(), record(CN, b"", reference.as_bytes()))
@@ -341,10 +345,10 @@ fn short_wildcards() -> Vec<Example> {
         example(
             "L6",
             case(behind, record(DNS, b"", b"a.b")),
-            [0, 0, 1, 7, 5],
+            [0, 0, 1, 7, 5, 0],
         ),
         cn("L7", "*.b", "a.b", bare(1)),
-        cn("L8", "*.b.c", "a.b.c", [0, 0, 0, 4, 14]),
+        cn("L8", "*.b.c", "a.b.c", [0, 0, 0, 4, 14, 0]),
         cn("L9", "*.b.c", "b.c", bare(1)),
     ]
 }
@@ -364,7 +368,7 @@ fn one_label_records() -> Vec<Example> {
             let case = Case {
                 san: san(vec![name.clone()]).write(),
                 subject: named("b"),
-                constraints: Vec::new(),
+                constraints: Chain::default(),
                 references,
             };
             table.push(example(&format!("L10: kind {kind} {place}"), case, bare(6)));
@@ -386,7 +390,9 @@ fn among_good(bad: Vec<u8>) -> [(&'static str, Vec<u8>); 3] {
 /// "Restrictions and presented names without a wildcard may keep one label".
 fn one_label_names() -> Vec<Example> {
     let under = |restriction: &[u8]| Case {
-        constraints: constraints(vec![subtree(srv_name(restriction))], Vec::new()).write(),
+        constraints: constraints(vec![subtree(srv_name(restriction))], Vec::new())
+            .write()
+            .into(),
         ..case(OLD_SRV_SAN.to_vec(), record(DNS, b"", b"a.b"))
     };
     vec![
@@ -443,18 +449,18 @@ fn next_to_addresses() -> Vec<Example> {
         dns("A13", "a.0x7", "A.0X7", true),
         dns("A14", "7.7-7", "7.7-7", true),
         dns("A15", "*.0.b7", "10.0.B7", true),
-        cn("A16", "4.example", "4.example", [0, 0, 0, 4, 18]),
-        cn("A17", "a.7b", "a.7b", [0, 0, 0, 4, 13]),
-        cn("A18", "*.4.7b", "a.4.7b", [0, 0, 0, 4, 15]),
-        uri("A19", "x://4.example", "4.example", [0, 0, 0, 2, 15]),
-        uri("A20", "x://a.7b", "a.7b", [0, 0, 0, 2, 10]),
-        uri("A21", "x://a.b:7", "a.b", [0, 0, 0, 2, 11]),
-        uri("A22", "x://7@4.7b:10/7", "4.7b", [0, 0, 0, 2, 17]),
+        cn("A16", "4.example", "4.example", [0, 0, 0, 4, 18, 0]),
+        cn("A17", "a.7b", "a.7b", [0, 0, 0, 4, 13, 0]),
+        cn("A18", "*.4.7b", "a.4.7b", [0, 0, 0, 4, 15, 0]),
+        uri("A19", "x://4.example", "4.example", [0, 0, 0, 2, 15, 0]),
+        uri("A20", "x://a.7b", "a.7b", [0, 0, 0, 2, 10, 0]),
+        uri("A21", "x://a.b:7", "a.b", [0, 0, 0, 2, 11, 0]),
+        uri("A22", "x://7@4.7b:10/7", "4.7b", [0, 0, 0, 2, 17, 0]),
         uri("A23", "x://a.7:7", "a.7", bare(6)),
         same_domain("A24", &ending(189, &[b'9'; 63]), bare(6)),
         same_domain("A25", &ending(251, b"9"), bare(6)),
-        same_domain("A26", &ending(189, &mostly_nines()), [0, 0, 0, 4, 256]),
-        same_domain("A27", &ending(251, b"z"), [0, 0, 0, 4, 256]),
+        same_domain("A26", &ending(189, &mostly_nines()), [0, 0, 0, 4, 256, 0]),
+        same_domain("A27", &ending(251, b"z"), [0, 0, 0, 4, 256, 0]),
     ]
 }
 
@@ -466,7 +472,7 @@ fn mostly_nines() -> [u8; 63] {
 }
 
 /// A SAN of one URI and one URI reference of scheme x.
-fn uri(number: &str, text: &str, domain: &str, verdict: [u32; 5]) -> Example {
+fn uri(number: &str, text: &str, domain: &str, verdict: [u32; 6]) -> Example {
     let san = san(vec![uri_name(text.as_bytes())]).write();
     example(
         number,
@@ -498,7 +504,7 @@ fn address_records() -> Vec<Example> {
 
 /// A SAN of one SRVName under one permitted restriction, for an SRV reference
 /// and the reference DNS `a.b`.
-fn srv(number: &str, name: &str, permitted: &str, asked: &str, verdict: [u32; 5]) -> Example {
+fn srv(number: &str, name: &str, permitted: &str, asked: &str, verdict: [u32; 6]) -> Example {
     let (service, domain) = asked.split_once('.').expect("a service and a domain");
     let references = [
         record(SRV, service.as_bytes(), domain.as_bytes()),
@@ -506,7 +512,7 @@ fn srv(number: &str, name: &str, permitted: &str, asked: &str, verdict: [u32; 5]
     ];
     let side = vec![subtree(srv_name(permitted.as_bytes()))];
     let case = Case {
-        constraints: constraints(side, Vec::new()).write(),
+        constraints: constraints(side, Vec::new()).write().into(),
         ..case(
             san(vec![srv_name(name.as_bytes())]).write(),
             references.concat(),
@@ -519,7 +525,9 @@ fn srv(number: &str, name: &str, permitted: &str, asked: &str, verdict: [u32; 5]
 /// exist)." A service may be all digits.
 fn address_srv_names() -> Vec<Example> {
     let excluded = Case {
-        constraints: constraints(Vec::new(), vec![subtree(srv_name(b"_n"))]).write(),
+        constraints: constraints(Vec::new(), vec![subtree(srv_name(b"_n"))])
+            .write()
+            .into(),
         ..case(
             san(vec![dns_name(b"a.b"), srv_name(b"_m.7")]).write(),
             record(DNS, b"", b"a.b"),
@@ -528,32 +536,38 @@ fn address_srv_names() -> Vec<Example> {
     vec![
         srv("A30", "_m.10.4.0.7", "_m", "m.a.b", bare(2)),
         srv("A31", "_m.a.7", "_m", "m.a.b", bare(2)),
-        example("A32", excluded, [2, 0, 1, 0, 0]),
-        srv("A33", "_m.4.example", "_m", "m.4.example", [0, 0, 0, 2, 28]),
-        srv("A34", "_m.a.7b", "7b", "m.A.7B", [0, 0, 0, 2, 23]),
-        srv("A35", "_7.a.b", "_7", "7.a.b", [0, 0, 0, 2, 22]),
-        srv("A36", "_7.a.b", "_7.b", "7.a.b", [0, 0, 0, 2, 22]),
+        example("A32", excluded, [2, 0, 1, 0, 0, 0]),
+        srv(
+            "A33",
+            "_m.4.example",
+            "_m",
+            "m.4.example",
+            [0, 0, 0, 2, 28, 0],
+        ),
+        srv("A34", "_m.a.7b", "7b", "m.A.7B", [0, 0, 0, 2, 23, 0]),
+        srv("A35", "_7.a.b", "_7", "7.a.b", [0, 0, 0, 2, 22, 0]),
+        srv("A36", "_7.a.b", "_7.b", "7.a.b", [0, 0, 0, 2, 22, 0]),
         srv("A37", "_7.4.example", "_7", "7.a.b", bare(1)),
     ]
 }
 
-/// "This holds for [...] restriction texts (5)". Restrictions of other forms are
-/// "read and passed over" as before.
+/// "This holds for [...] restriction texts (5)". Request 6/13 asks the same of a
+/// dNSName. Restrictions of other forms are "read and passed over" as before.
 fn address_restrictions() -> Vec<Example> {
-    let under = |number: &str, base: Node, verdict: [u32; 5]| {
+    let under = |number: &str, base: Node, verdict: [u32; 6]| {
         let sides = [("permitted", 0), ("excluded", 1)];
         sides.map(|(side, excluded)| {
             let mut subtrees = [Vec::new(), Vec::new()];
             subtrees[excluded].push(subtree(base.clone()));
             let [permitted, excluded] = subtrees;
             let case = Case {
-                constraints: constraints(permitted, excluded).write(),
+                constraints: constraints(permitted, excluded).write().into(),
                 ..case(S.to_vec(), record(DNS, b"", b"a.b"))
             };
             example(&format!("{number} {side}"), case, verdict)
         })
     };
-    let kept = [0, 0, 0, 2, 5];
+    let kept = [0, 0, 0, 2, 5, 0];
     [
         under("A38: 10.4.0.7", srv_name(b"10.4.0.7"), bare(5)),
         under("A38: 7", srv_name(b"7"), bare(5)),
@@ -562,18 +576,19 @@ fn address_restrictions() -> Vec<Example> {
         under("A39: _7", srv_name(b"_7"), kept),
         under("A39: 4.example", srv_name(b"4.example"), kept),
         under("A39: _m.a.7b", srv_name(b"_m.a.7b"), kept),
-        under("A40: dNSName", dns_name(b"10.4.0.7"), kept),
+        under("A40: dNSName", dns_name(b"10.4.0.7"), bare(5)),
         under("A40: URI", uri_name(b"x://10.4.0.7"), kept),
     ]
     .concat()
 }
 
 /// Request 3/13 names no bytes. These are strings of several rows, of none, and
-/// some that are refused, for the desk to page through.
+/// some that are refused, for the desk to page through. Since request 6/13 the
+/// excluded dNSName `a.b` is broken by a dNSName there.
 fn viewed() -> Vec<Example> {
     let all = Case {
         subject: THREE_ATTRIBUTES.to_vec(),
-        constraints: THREE_SUBTREES.to_vec(),
+        constraints: THREE_SUBTREES.to_vec().into(),
         ..case(TWO_ENTRIES.to_vec(), record(DNS, b"", b"b.c"))
     };
     let no_san = Case {
@@ -586,22 +601,22 @@ fn viewed() -> Vec<Example> {
         ..all.clone()
     };
     let of_constraints = |constraints: &[u8]| Case {
-        constraints: constraints.to_vec(),
+        constraints: constraints.to_vec().into(),
         ..all.clone()
     };
     let of_san = |san: &[u8]| Case {
         san: san.to_vec(),
         ..all.clone()
     };
-    let second_entry = [0, 0, 1, 7, 5];
+    let second_entry = [0, 0, 1, 7, 5, 0];
     vec![
-        example("V1", all.clone(), second_entry),
-        example("V2", no_san, [0, 0, 0, 14, 12]),
-        example("V3", of_subject(b"\x30\x00"), second_entry),
+        example("V1", all.clone(), bare(2)),
+        example("V2", no_san, [0, 0, 0, 14, 12, 0]),
+        example("V3", of_subject(b"\x30\x00"), bare(2)),
         example("V4", of_constraints(b"\x30\x00"), bare(5)),
         example("V5", of_subject(b""), bare(4)),
         example("V6", of_constraints(b""), second_entry),
-        example("V7", of_san(b"\x30\x04\x82\x00\x82\x00"), bare(1)),
+        example("V7", of_san(b"\x30\x04\x82\x00\x82\x00"), bare(2)),
         example("V8", of_san(b"\x30\x02\x82\x00\x00"), bare(3)),
         example("V9", of_san(&THREE_ATTRIBUTES), bare(3)),
         example("V10", of_subject(&THREE_SUBTREES), bare(4)),

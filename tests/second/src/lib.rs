@@ -1,6 +1,6 @@
 //! A second implementation of the certificate name check, written from the
 //! document "The rules and what will be built" (document 01) and requests 1/13
-//! to 5/13 of "New change requests from customers" (document 02) alone. Quoted
+//! to 6/13 of "New change requests from customers" (document 02) alone. Quoted
 //! sentences in the comments are document 01's, or a request's where they say
 //! so.
 
@@ -9,6 +9,7 @@ pub mod der;
 pub mod examples;
 pub mod general_name;
 pub mod generate;
+pub mod issuers;
 pub mod listing;
 pub mod name;
 pub mod program;
@@ -24,10 +25,11 @@ pub mod writer;
 #[cfg(feature = "archive")]
 pub mod archive;
 
+pub use issuers::{Issuers, MOST_ISSUERS};
 pub use listing::{list, list_into, Listed, Listing, Which};
 pub use name::Row;
 pub use records::{record, RecordView};
-pub use verdict::{judge, text_place, verdict, Outcome, Place, Verdict};
+pub use verdict::{judge, judge_from_c, text_place, verdict, Outcome, Place, Verdict};
 pub use viewer::Viewer;
 pub use writer::{write_records, write_san, Lists, Writer, Written};
 
@@ -51,7 +53,8 @@ pub mod answer {
 }
 
 /// "Longest inputs, in bytes: SAN 16,384; subject 4,096; constraints 16,384;
-/// references 5,120."
+/// references 5,120." Request 6/13, of constraint strings: "each keeps its own
+/// length limit".
 pub mod longest {
     pub const SAN: usize = 16_384;
     pub const SUBJECT: usize = 4_096;

@@ -9,14 +9,19 @@ const MOST_ROWS: usize = 512;
 
 /// "writes the verdict's five numbers, then the SAN's rows if it is within its
 /// limit, readable and has at most 512, or `rows` and the count if more.
-/// Decimals, single spaces, a line feed after each line."
+/// Decimals, single spaces, a line feed after each line." Request 6/13: "The
+/// program's first line and 01's examples gain the number; it still reads nc.der
+/// alone." What it reads there is one string; an empty or missing file is none.
 pub fn output(san: &[u8], subject: &[u8], constraints: &[u8], references: &[u8]) -> String {
     let mut lines = String::new();
-    let v = verdict(san, subject, constraints, references);
-    line(
-        &mut lines,
-        &[v.answer, v.reference, v.presented, v.start, v.length],
-    );
+    let one = [constraints.len()];
+    let lengths = if constraints.is_empty() {
+        &[]
+    } else {
+        &one[..]
+    };
+    let verdict = verdict(san, subject, constraints, lengths, references);
+    line(&mut lines, &verdict.numbers());
     let listing = list(san, Which::San);
     if listing.answer == answer::MATCH && listing.rows.len() <= MOST_ROWS {
         for row in &listing.rows {

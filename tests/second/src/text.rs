@@ -1,5 +1,5 @@
-//! "Names": the texts of domains, services, schemes, SRV-IDs, URI-IDs and
-//! SRVName subtrees.
+//! "Names": the texts of domains, services, schemes, DNS-IDs, SRV-IDs, URI-IDs
+//! and of the subtrees of either form.
 
 pub const LONGEST_DOMAIN: usize = 253;
 pub const LONGEST_LABEL: usize = 63;
@@ -155,6 +155,29 @@ pub fn lies_in((service, domain): Pair<'_>, subtree: &[u8]) -> bool {
     let (wanted_service, wanted_domain) = subtree_parts(subtree);
     wanted_service.is_none_or(|wanted| same_text(service, wanted))
         && wanted_domain.is_none_or(|wanted| ends_with_labels(domain, wanted))
+}
+
+/// Request 6/13, of a dNSName subtree: "an empty text contains every name; any
+/// other text must be a domain, else 5".
+pub fn is_dns_subtree(text: &[u8]) -> bool {
+    text.is_empty() || is_domain(text)
+}
+
+/// Whether a DNS-ID lies in a dNSName subtree: "zero or more labels added on the
+/// left". "A wildcard name lies in a subtree if the subtree's labels are its last
+/// labels, the star taken as an ordinary label."
+pub fn dns_lies_in(dns_id: &[u8], subtree: &[u8]) -> bool {
+    subtree.is_empty() || ends_with_labels(dns_id, subtree)
+}
+
+/// Whether a DNS-ID breaks a dNSName subtree that is excluded: it lies there, or
+/// is a wildcard that one label turns into the subtree. "It also breaks an
+/// excluded subtree made of one label and then the text after `*.`".
+pub fn dns_breaks(dns_id: &[u8], subtree: &[u8]) -> bool {
+    dns_lies_in(dns_id, subtree)
+        || dns_id.strip_prefix(b"*.").is_some_and(|rest| {
+            split_once(subtree, b'.').is_some_and(|(_, behind)| same_text(behind, rest))
+        })
 }
 
 /// Whether the labels of `last` are the last labels of `domain`. "Equal

@@ -1,13 +1,15 @@
 //! The verdict and its witness.
 
-use crate::constraints::{first_broken, SrvSides};
+use crate::constraints::Restrictions;
+use crate::issuers::Issuers;
 use crate::name::{kind as row_kind, Name};
 use crate::records::{kind, Reference, References};
 use crate::text::{self, same_text, Pair};
 use crate::{answer, longest, san, subject};
 
 /// "A verdict is five numbers: answer, reference index, presented index,
-/// start, length."
+/// start, length." Request 6/13: "The verdict record grows a sixth number, the
+/// issuer's index, zero except with answer 2".
 #[derive(Clone, Copy, Debug, Default, PartialEq, Eq)]
 pub struct Verdict {
     pub answer: u32,
@@ -15,6 +17,21 @@ pub struct Verdict {
     pub presented: u32,
     pub start: u32,
     pub length: u32,
+    pub issuer: u32,
+}
+
+impl Verdict {
+    /// The six numbers, in order.
+    pub fn numbers(&self) -> [u32; 6] {
+        [
+            self.answer,
+            self.reference,
+            self.presented,
+            self.start,
+            self.length,
+            self.issuer,
+        ]
+    }
 }
 
 /// The place of the witness's text: in the subject for a CN reference, else in
@@ -45,10 +62,12 @@ impl Outcome {
     }
 
     /// "an SRVName breaks the constraints: presented index of the first that
-    /// does; the rest zero"
-    fn broken(presented: usize) -> Self {
+    /// does; the rest zero". Since request 6/13 a dNSName may, and the issuer's
+    /// index stands beside it.
+    fn broken(issuer: usize, presented: usize) -> Self {
         let mut outcome = Outcome::bare(answer::CONSTRAINTS_BROKEN);
         outcome.verdict.presented = presented as u32;
+        outcome.verdict.issuer = issuer as u32;
         outcome
     }
 
@@ -60,6 +79,7 @@ impl Outcome {
             presented: name.row.group as u32,
             start: name.row.start as u32,
             length: name.row.length as u32,
+            issuer: 0,
         };
         let text = Place {
             start: name.text_start as u32,
@@ -69,26 +89,67 @@ impl Outcome {
     }
 }
 
-/// The five numbers of the verdict.
-pub fn verdict(san: &[u8], subject: &[u8], constraints: &[u8], references: &[u8]) -> Verdict {
-    judge(san, subject, constraints, references).verdict
+/// The six numbers of the verdict.
+pub fn verdict(
+    san: &[u8],
+    subject: &[u8],
+    constraints: &[u8],
+    lengths: &[usize],
+    references: &[u8],
+) -> Verdict {
+    judge(san, subject, constraints, lengths, references).verdict
 }
 
 /// The place of the witness's text.
-pub fn text_place(san: &[u8], subject: &[u8], constraints: &[u8], references: &[u8]) -> Place {
-    judge(san, subject, constraints, references).text
+pub fn text_place(
+    san: &[u8],
+    subject: &[u8],
+    constraints: &[u8],
+    lengths: &[usize],
+    references: &[u8],
+) -> Place {
+    judge(san, subject, constraints, lengths, references).text
+}
+
+/// The verdict and its witness, for constraint strings end to end and their
+/// lengths.
+pub fn judge(
+    san: &[u8],
+    subject: &[u8],
+    constraints: &[u8],
+    lengths: &[usize],
+    references: &[u8],
+) -> Outcome {
+    let issuers = Issuers::cut(constraints, lengths.iter().copied());
+    judge_under(san, subject, issuers, references)
+}
+
+/// The same for lengths as C hands them over.
+pub fn judge_from_c(
+    san: &[u8],
+    subject: &[u8],
+    constraints: &[u8],
+    lengths: &[u8],
+    references: &[u8],
+) -> Outcome {
+    let issuers = Issuers::from_c(constraints, lengths);
+    judge_under(san, subject, issuers, references)
 }
 
 /// "Order for a verdict: 7 for any of the four inputs, then 6, 3, 4, 5, 2,
 /// then 0 or 1." The pairs are looked for while the names are read.
-pub fn judge(san: &[u8], subject: &[u8], constraints: &[u8], references: &[u8]) -> Outcome {
-    if san.len() > longest::SAN
+fn judge_under(
+    san: &[u8],
+    subject: &[u8],
+    issuers: Option<Issuers<'_>>,
+    references: &[u8],
+) -> Outcome {
+    let too_long = san.len() > longest::SAN
         || subject.len() > longest::SUBJECT
-        || constraints.len() > longest::CONSTRAINTS
-        || references.len() > longest::REFERENCES
-    {
+        || references.len() > longest::REFERENCES;
+    let Some(issuers) = issuers.filter(|_| !too_long) else {
         return Outcome::bare(answer::TOO_LONG);
-    }
+    };
     let Some(references) = References::read(references) else {
         return Outcome::bare(answer::REFERENCES_UNREADABLE);
     };
@@ -100,13 +161,24 @@ pub fn judge(san: &[u8], subject: &[u8], constraints: &[u8], references: &[u8]) 
     if read.is_none() {
         return Outcome::bare(answer::SUBJECT_UNREADABLE);
     }
-    let Some(sides) = SrvSides::read(constraints) else {
+    let strings = issuers.strings().iter();
+    let read: Option<Vec<Restrictions>> =
+        strings.map(|string| Restrictions::read(string)).collect();
+    let Some(restrictions) = read else {
         return Outcome::bare(answer::CONSTRAINTS_UNREADABLE);
     };
-    match first_broken(san, constraints, sides) {
-        Some(presented) => Outcome::broken(presented),
+    match first_breach(san, &restrictions) {
+        Some((issuer, presented)) => Outcome::broken(issuer, presented),
         None => search.outcome(),
     }
+}
+
+/// The indexes of an issuer whose string is broken and of the entry that breaks
+/// it. Request 6/13: "All of them must hold." "lowest issuer first, then lowest
+/// name".
+fn first_breach(san: &[u8], restrictions: &[Restrictions]) -> Option<(usize, usize)> {
+    let mut issuers = restrictions.iter().enumerate();
+    issuers.find_map(|(issuer, string)| Some((issuer, string.first_broken(san)?)))
 }
 
 /// The search for "the first pair": lowest reference, then lowest name. Names

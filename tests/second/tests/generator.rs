@@ -116,11 +116,12 @@ fn user_length(case: &Case, outcome: &Outcome) -> usize {
     authority.iter().position(|&byte| byte == b'@').unwrap_or(0)
 }
 
-/// How many SRVName subtrees a side has.
+/// How many SRVName subtrees a side has, in all strings.
 fn restrictions(case: &Case, side: usize) -> usize {
-    let rows = list(&case.constraints, Which::Constraints).rows;
-    let of_side = |row: &&second::Row| row.kind == SRV_ROW && row.group == side;
-    rows.iter().filter(of_side).count()
+    let strings = case.constraints.strings().into_iter();
+    let rows = strings.flat_map(|string| list(string, Which::Constraints).rows);
+    rows.filter(|row| row.kind == SRV_ROW && row.group == side)
+        .count()
 }
 
 #[test]
@@ -387,7 +388,9 @@ fn srv_names(case: &Case) -> Vec<(usize, &[u8])> {
 /// with its very bytes.
 fn by_letters(case: &Case, side: usize, names: &[(usize, &[u8])]) -> bool {
     let mut subtrees = Vec::new();
-    let _read = constraints::read(&case.constraints, |subtree| subtrees.push(subtree));
+    for string in case.constraints.strings() {
+        let _read = constraints::read(string, |subtree| subtrees.push(subtree));
+    }
     subtrees.retain(|subtree| subtree.row.kind == SRV_ROW && subtree.row.group == side);
     let mut names = names.iter().filter_map(|(_, text)| srv_id(text));
     names.any(|name| {

@@ -4,10 +4,10 @@
 use second::examples::{J, THREE_ATTRIBUTES, THREE_SUBTREES, TWO_ENTRIES};
 use second::records::kind::{CN, DNS, SRV, URI};
 use second::text::{
-    has_two_labels, is_domain, is_scheme, is_service, is_srv_subtree, lies_in, same_text, srv_id,
-    uri_parts,
+    has_two_labels, is_dns_subtree, is_domain, is_scheme, is_service, is_srv_subtree, lies_in,
+    same_text, srv_id, uri_parts,
 };
-use second::tree::{dns_name, record, san, srv_name, uri_name, Node};
+use second::tree::{dns_name, parts, record, san, srv_name, subtree, uri_name, Node};
 use second::{answer, judge, list, list_into, verdict, Lists, Row, Viewer, Which, Writer};
 use std::fs;
 
@@ -36,7 +36,8 @@ fn stored(program: &str, lines: &[Vec<u8>]) {
 fn matches(name: Node, kind: u8, service: &[u8], domain: &[u8]) -> bool {
     let fits = service.len() <= 63 && domain.len() <= 253;
     let names = san(vec![name]).write();
-    fits && verdict(&names, &J, &[], &record(kind, service, domain)).answer == answer::MATCH
+    let verdict = verdict(&names, &J, &[], &[], &record(kind, service, domain));
+    fits && verdict.answer == answer::MATCH
 }
 
 /// A DNS-ID matches the domain in which `*` is a label of one letter. No record
@@ -57,6 +58,16 @@ fn is_uri_id(text: &[u8]) -> bool {
         true => matches(uri_name(text), URI, scheme, domain),
         false => is_scheme(scheme) && is_domain(domain),
     })
+}
+
+/// Whether a DNS-ID breaks a string of one dNSName subtree on this side.
+fn breaks(name: &[u8], side: u8, subtree_text: &[u8]) -> bool {
+    let subtrees = parts(side, vec![subtree(dns_name(subtree_text))]);
+    let string = parts(0x30, vec![subtrees]).write();
+    let names = san(vec![dns_name(name)]).write();
+    let references = record(DNS, b"", b"a.b");
+    let verdict = verdict(&names, &J, &string, &[string.len()], &references);
+    verdict.answer == answer::CONSTRAINTS_BROKEN
 }
 
 /// What stands before the first space, and what stands behind it.
@@ -84,6 +95,9 @@ fn holds(rule: u8, text: &[u8]) -> bool {
         b'x' => is_srv_subtree(text),
         b'X' => srv_id(rest).is_some_and(|pair| lies_in(pair, first)),
         b'T' => same_text(first, rest),
+        b'y' => is_dns_subtree(text),
+        b'Y' => !breaks(rest, 0xA0, first),
+        b'Z' => breaks(rest, 0xA1, first),
         _ => panic!("no rule has the letter {rule}"),
     }
 }
@@ -186,6 +200,13 @@ const SEVERAL: [Spelled; 8] = [
     ("sides out of order", Which::Constraints, b"\x30\x0C\xA1\x04\x30\x02\x82\x00\xA0\x04\x30\x02\x82\x00"),
 ];
 
+/// A dNSName restriction that is no domain, in `listed` (request 6/13).
+const LEADING_DOT: Spelled = (
+    "leading dot",
+    Which::Constraints,
+    b"\x30\x08\xA0\x06\x30\x04\x82\x02.b",
+);
+
 /// A tag and a length in one, two or three bytes, whichever is asked for.
 fn header(tag: u8, length: usize, form: usize) -> Vec<u8> {
     let [high, low] = (length as u16).to_be_bytes();
@@ -237,6 +258,8 @@ fn listed() {
         lines.push(in_four(&title, Which::San, &one_name(length, form)));
     }
     lines.extend(next_to_limits());
+    let (title, which, bytes) = LEADING_DOT;
+    lines.push(in_four(title, which, bytes));
     for count in [512, 513, 600] {
         let bytes = [header(0x30, 2 * count, 3), [0x82, 0].repeat(count)].concat();
         lines.push(for_512(&format!("{count} entries"), &bytes));
@@ -336,25 +359,43 @@ const TWO_SETS: &[u8] = b"\x30\x1A\x31\x08\x30\x06\x06\x01\x2A\x0C\x01\x62\x31\x
 const PERMITTED: &[u8] =
     b"\x30\x16\xA0\x14\x30\x12\xA0\x10\x06\x08\x2B\x06\x01\x05\x05\x07\x08\x07\xA0\x04\x16\x02_n";
 
-/// A line of `witnessed`: title, SAN, subject and constraints.
-type Witnessed = (&'static str, &'static [u8], &'static [u8], &'static [u8]);
+const DNS_NAME: &[u8] = b"\x30\x07\x82\x05a.b.c";
+/// The dNSName subtrees `c` and `d`, permitted, and `d`, excluded.
+const PERMITTED_C: &[u8] = b"\x30\x07\xA0\x05\x30\x03\x82\x01c";
+const PERMITTED_D: &[u8] = b"\x30\x07\xA0\x05\x30\x03\x82\x01d";
+const EXCLUDED_D: &[u8] = b"\x30\x07\xA1\x05\x30\x03\x82\x01d";
 
-const WITNESSED: [Witnessed; 10] = [
-    ("dNSName", b"\x30\x07\x82\x05a.b.c", ABC, b""),
-    ("wildcard", b"\x30\x07\x82\x05*.b.c", ABC, b""),
+/// A line of `witnessed`: title, SAN, subject and constraint strings.
+type Witnessed = (
+    &'static str,
+    &'static [u8],
+    &'static [u8],
+    &'static [&'static [u8]],
+);
+
+const WITNESSED: [Witnessed; 12] = [
+    ("dNSName", DNS_NAME, ABC, &[]),
+    ("wildcard", b"\x30\x07\x82\x05*.b.c", ABC, &[]),
     (
         "second name",
         b"\x30\x0E\x82\x05x.b.c\x82\x05A.B.C",
         ABC,
-        b"",
+        &[],
     ),
-    ("SRVName", SRV_NAME, ABC, b""),
-    ("URI", b"\x30\x0B\x86\x09m://a.b.c", ABC, b""),
-    ("CN", b"", ABC, b""),
-    ("CN of the second set", b"\x30\x03\x81\x01@", TWO_SETS, b""),
-    ("mismatch", b"\x30\x07\x82\x05x.b.c", ABC, b""),
-    ("unreadable", b"\x30\x00", ABC, b""),
-    ("constraints broken", SRV_NAME, ABC, PERMITTED),
+    ("SRVName", SRV_NAME, ABC, &[]),
+    ("URI", b"\x30\x0B\x86\x09m://a.b.c", ABC, &[]),
+    ("CN", b"", ABC, &[]),
+    ("CN of the second set", b"\x30\x03\x81\x01@", TWO_SETS, &[]),
+    ("mismatch", b"\x30\x07\x82\x05x.b.c", ABC, &[]),
+    ("unreadable", b"\x30\x00", ABC, &[]),
+    ("constraints broken", SRV_NAME, ABC, &[PERMITTED]),
+    ("two issuers", DNS_NAME, ABC, &[PERMITTED_C, EXCLUDED_D]),
+    (
+        "third issuer's constraints broken",
+        DNS_NAME,
+        ABC,
+        &[PERMITTED_C, b"", PERMITTED_D],
+    ),
 ];
 
 #[test]
@@ -364,15 +405,15 @@ fn witnessed() {
     let references = references.concat();
     let lines: Vec<Vec<u8>> = WITNESSED
         .iter()
-        .map(|(title, san, subject, constraints)| {
-            let outcome = judge(san, subject, constraints, &references);
+        .map(|(title, san, subject, strings)| {
+            let lengths: Vec<usize> = strings.iter().map(|string| string.len()).collect();
+            let outcome = judge(san, subject, &strings.concat(), &lengths, &references);
             let (v, text) = (outcome.verdict, outcome.text);
             // the fourth reference is the CN's, whose text lies in the subject
             let holder = if v.reference == 3 { subject } else { san };
             let (start, length) = (text.start as usize, text.length as usize);
-            let five = [v.answer, v.reference, v.presented, v.start, v.length];
-            let five = five.map(|number| number.to_string()).join(" ");
-            let before = format!("{title}: {five}; {start} {length}; \"");
+            let six = v.numbers().map(|number| number.to_string()).join(" ");
+            let before = format!("{title}: {six}; {start} {length}; \"");
             [before.as_bytes(), &holder[start..start + length], b"\""].concat()
         })
         .collect();

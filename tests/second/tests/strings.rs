@@ -1,9 +1,9 @@
 //! Unit tables for the DER of the three certificate strings, seen through the
 //! listing, and for the listing's tables.
 
-use second::examples::J;
+use second::examples::{domain_of, J};
 use second::tree::*;
-use second::{list, list_into, Listed, Row, Which};
+use second::{list, list_into, Listed, Row, Viewer, Which};
 
 fn answer(bytes: &[u8], which: Which) -> u32 {
     list(bytes, which).answer
@@ -219,8 +219,8 @@ fn shapes_of_constraints() {
     assert_eq!(read(vec![parts(0xA0, vec![subtree(srv_name(b"*.b"))])]), 5);
 }
 
-/// Request 2/13: "This holds for [...] restriction texts (5)"; other forms are
-/// "read and passed over".
+/// Request 2/13: "This holds for [...] restriction texts (5)"; since request 6/13
+/// for dNSNames too. Other forms are "read and passed over".
 #[test]
 fn restrictions_that_end_in_digits() {
     let read = |base: Node| {
@@ -231,7 +231,8 @@ fn restrictions_that_end_in_digits() {
     };
     for text in ["10.4.0.7", "7", "a.7", "_m.7", "_7.10.4.0.7"] {
         assert_eq!(read(srv_name(text.as_bytes())), 5, "{text}");
-        assert_eq!(read(dns_name(text.as_bytes())), 0, "{text}");
+        assert_eq!(read(dns_name(text.as_bytes())), 5, "{text}");
+        assert_eq!(read(uri_name(text.as_bytes())), 0, "{text}");
     }
     for text in ["_7", "4.example", "a.7b", "_m.4.example", "_7.a.7b", "7b"] {
         assert_eq!(read(srv_name(text.as_bytes())), 0, "{text}");
@@ -243,6 +244,33 @@ fn restrictions_that_end_in_digits() {
     );
     // A SAN is readable whatever its SRVNames say.
     assert_eq!(answer(&san(vec![srv_name(b"_m.7")]).write(), Which::San), 0);
+}
+
+/// Request 6/13: "an empty text contains every name; any other text must be a
+/// domain, else 5." The listing and the viewer refuse such a string too.
+#[test]
+fn dns_restrictions() {
+    let long = domain_of(253);
+    let good: [&[u8]; 6] = [b"", b"b", b"a.b", b"4.example", b"A.7b", &long];
+    let longer = domain_of(254);
+    let bad: [&[u8]; 12] = [
+        b".b", b"b.", b"*.b.c", b"7", b".", b"a..b", b"*", b"a_b", b"-a", b"a-", b"a.7", &longer,
+    ];
+    for (texts, wanted) in [(&good[..], 0), (&bad[..], 5)] {
+        for text in texts {
+            for tag in [0xA0, 0xA1] {
+                let side = parts(tag, vec![subtree(email(b"")), subtree(dns_name(text))]);
+                let bytes = parts(0x30, vec![side]).write();
+                assert_eq!(answer(&bytes, Which::Constraints), wanted, "{text:?}");
+                let (opening, mut viewer) = Viewer::open(&bytes, Which::Constraints);
+                assert_eq!(opening, wanted, "{text:?}");
+                assert_eq!(viewer.step().is_some(), wanted == 0, "{text:?}");
+            }
+        }
+        // A SAN is readable whatever its dNSNames say.
+        let names = texts.iter().map(|text| dns_name(text)).collect();
+        assert_eq!(answer(&san(names).write(), Which::San), 0);
+    }
 }
 
 const OLD: [Row; 5] = [Row {

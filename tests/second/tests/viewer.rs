@@ -173,7 +173,7 @@ fn of_size(which: Which, size: usize) -> Vec<u8> {
             subject(vec![rdn(vec![common_name(0x0C, &text)])])
         }
         Which::Constraints => {
-            let base = dns_name(&vec![b'a'; inside(4)]);
+            let base = email(&vec![b'a'; inside(4)]);
             constraints(Vec::new(), vec![subtree(base)])
         }
     };
@@ -189,7 +189,7 @@ fn openings_at_the_limit_and_past_it() {
     let limits = [
         (Which::San, 16_384, [2, 4, 16_380, 0], 3),
         (Which::Subject, 4_096, [10, 8, 4_088, 0], 4),
-        (Which::Constraints, 16_384, [2, 12, 16_372, 1], 5),
+        (Which::Constraints, 16_384, [1, 12, 16_372, 1], 5),
     ];
     for (which, limit, row, unreadable) in limits {
         let longest = of_size(which, limit);
@@ -207,13 +207,18 @@ fn openings_at_the_limit_and_past_it() {
     }
 }
 
-/// The three certificate strings of a case.
-fn strings(case: &Case) -> [(Which, &[u8]); 3] {
-    [
-        (Which::San, &case.san),
-        (Which::Subject, &case.subject),
-        (Which::Constraints, &case.constraints),
-    ]
+/// The certificate strings of a case: SAN, subject, and the constraints of each
+/// issuer or, where there is none, absent constraints.
+fn strings(case: &Case) -> Vec<(Which, &[u8])> {
+    let mut constraints = case.constraints.strings();
+    if constraints.is_empty() {
+        constraints.push(b"");
+    }
+    let constraints = constraints.into_iter();
+    [(Which::San, &case.san[..]), (Which::Subject, &case.subject)]
+        .into_iter()
+        .chain(constraints.map(|string| (Which::Constraints, string)))
+        .collect()
 }
 
 /// Takes the strings of many generated cases and of the boundary table.

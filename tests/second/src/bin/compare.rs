@@ -1,9 +1,9 @@
 //! Compares this implementation with the archive of the other one.
 //!
 //! `compare --cases N --seed S` runs the desk examples, the boundary tables and
-//! N generated cases, and ends with 1 if an answer, a kind of match, something
-//! that a viewer shows, an answer of a writer or one about two texts never
-//! occurred. With `--first K` it runs the N cases from number K on and nothing
+//! N generated cases, and ends with 1 if an answer, a kind of match, a form or an
+//! issuer with answer 2, a reason of lengths for answer 7, something that a viewer
+//! shows, an answer of a writer or one about two texts never occurred. With `--first K` it runs the N cases from number K on and nothing
 //! else. `compare --soak` runs cases under fresh seeds until it is stopped. All
 //! end with 1 at the first difference.
 
@@ -14,9 +14,11 @@ mod writers;
 
 use second::archive::{self, CListed, CSight, Inputs};
 use second::generate::positions::{pages, positions};
-use second::generate::{self, boundary, lists, Case, Random};
+use second::generate::{self, boundary, lists, Case, Chain, Random};
+use second::name::kind as row_kind;
 use second::records::RECORD;
-use second::{examples, judge, list, record, Outcome, Row, Viewer, Which};
+use second::{examples, judge_from_c, list, record, Outcome, Row, Viewer, Which, MOST_ISSUERS};
+use std::cmp::Ordering;
 use std::ops::Range;
 use std::process::ExitCode;
 use std::time::{Instant, SystemTime, UNIX_EPOCH};
@@ -179,30 +181,46 @@ fn soak() -> Result<(), String> {
 
 /// One case whose inputs lie in allocations of exactly their size.
 struct Exact {
-    inputs: [Box<[u8]>; 4],
+    inputs: [Box<[u8]>; 5],
+    /// One of the constraint strings, to be listed and viewed.
+    string: Box<[u8]>,
 }
 
 impl Exact {
-    fn new(case: &Case) -> Self {
+    fn new(case: &Case, random: &mut Random) -> Self {
         let inputs = [
             &case.san,
             &case.subject,
-            &case.constraints,
+            &case.constraints.bytes,
+            &case.constraints.lengths,
             &case.references,
         ];
         Exact {
             inputs: inputs.map(|input| input.as_slice().into()),
+            string: one_string(&case.constraints, random).into(),
         }
     }
 
     fn inputs(&self) -> Inputs<'_> {
-        let [san, subject, constraints, references] = &self.inputs;
+        let [san, subject, constraints, lengths, references] = &self.inputs;
         Inputs {
             san,
             subject,
             constraints,
+            lengths,
             references,
         }
+    }
+}
+
+/// Listing and viewer take one string: one of several, and now and then all of
+/// them as one.
+fn one_string<'a>(chain: &'a Chain, random: &mut Random) -> &'a [u8] {
+    match chain.strings()[..] {
+        [] => &chain.bytes,
+        [only] => only,
+        _ if random.one_in(8) => &chain.bytes,
+        ref several => *random.pick(several),
     }
 }
 
@@ -234,17 +252,20 @@ fn compare(case: &Case, old: &mut Old, tally: &mut Tally) -> Result<(), String> 
 
 /// Compares what both implementations read.
 fn compare_readers(case: &Case, old_rows: &mut Random, tally: &mut Tally) -> Result<(), String> {
-    let exact = Exact::new(case);
+    let exact = Exact::new(case, old_rows);
     let inputs = exact.inputs();
-    let ours = judge(
+    let ours = judge_from_c(
         inputs.san,
         inputs.subject,
         inputs.constraints,
+        inputs.lengths,
         inputs.references,
     );
     equal("verdict", inputs, &ours, &archive::judge(inputs))?;
+    let at_once = archive::judge_at_once(inputs);
+    equal("verdict by one call", inputs, &ours, &at_once)?;
     tally.count_verdict(case, &ours);
-    let strings = [inputs.san, inputs.subject, inputs.constraints];
+    let strings = [inputs.san, inputs.subject, &exact.string];
     for (which, bytes) in Which::ALL.into_iter().zip(strings) {
         compare_listing(inputs, bytes, which, old_rows, tally)?;
         compare_viewers(inputs, bytes, which, old_rows, tally)?;
@@ -450,6 +471,7 @@ fn equal<T: PartialEq + fmt::Debug>(
         format!("san {}", hex(inputs.san)),
         format!("subject {}", hex(inputs.subject)),
         format!("constraints {}", hex(inputs.constraints)),
+        format!("lengths {}", hex(inputs.lengths)),
         format!("references {}", hex(inputs.references)),
         format!("this    {ours:?}"),
         format!("archive {theirs:?}"),
@@ -461,13 +483,20 @@ fn hex(bytes: &[u8]) -> String {
     bytes.iter().map(|byte| format!("{byte:02X}")).collect()
 }
 
-/// How often each answer and each kind of match occurred, what viewers of each
-/// of the three strings showed, what writers answered, and how many pairs of
+/// How often each answer and each kind of match occurred, what broke which
+/// issuer's constraints, what was wrong with lengths, what viewers of each of the
+/// three strings showed, what writers answered, and how many pairs of
 /// texts were the same.
 #[derive(Default)]
 struct Tally {
     answers: [u64; 9],
     matches: [u64; MATCHES.len()],
+    /// Answer 2 by form: dNSName, SRVName.
+    broken: [u64; 2],
+    /// Answer 2 by issuer.
+    issuers: [u64; MOST_ISSUERS],
+    /// What is wrong with lengths that are answered with 7.
+    lengths: [u64; LENGTHS.len()],
     viewers: [ViewerTally; 3],
     writers: writers::Tally,
     texts: texts::Tally,
@@ -513,11 +542,29 @@ const MATCHES: [&str; 6] = [
     "CN wildcard",
 ];
 
+const BROKEN: [&str; 2] = ["dNSName", "SRVName"];
+
+const LENGTHS: [&str; 4] = ["an odd count", "nine", "a small sum", "a great sum"];
+
 impl Tally {
     fn count_verdict(&mut self, case: &Case, outcome: &Outcome) {
-        self.answers[outcome.verdict.answer as usize] += 1;
+        let verdict = outcome.verdict;
+        self.answers[verdict.answer as usize] += 1;
         if let Some(kind) = match_kind(case, outcome) {
             self.matches[kind] += 1;
+        }
+        match verdict.answer {
+            second::answer::CONSTRAINTS_BROKEN => {
+                let entry = list(&case.san, Which::San).rows[verdict.presented as usize];
+                self.broken[usize::from(entry.kind == row_kind::SRV)] += 1;
+                self.issuers[verdict.issuer as usize] += 1;
+            }
+            second::answer::TOO_LONG => {
+                if let Some(reason) = wrong_lengths(&case.constraints) {
+                    self.lengths[reason] += 1;
+                }
+            }
+            _ => {}
         }
     }
 
@@ -526,10 +573,19 @@ impl Tally {
         let answers = answers.map(|(answer, &count)| (format!("answer {answer}"), count));
         let matches = MATCHES.iter().zip(self.matches);
         let matches = matches.map(|(name, count)| (format!("match by {name}"), count));
+        let broken = BROKEN.iter().zip(self.broken);
+        let broken = broken.map(|(form, count)| (format!("answer 2 by a {form}"), count));
+        let issuers = self.issuers.iter().enumerate();
+        let issuers = issuers.map(|(issuer, &count)| (format!("answer 2, issuer {issuer}"), count));
+        let lengths = LENGTHS.iter().zip(self.lengths);
+        let lengths = lengths.map(|(reason, count)| (format!("answer 7 by {reason}"), count));
         let viewers = Which::ALL.into_iter().zip(&self.viewers);
         let viewers = viewers.flat_map(|(which, tally)| tally.lines(which));
         answers
             .chain(matches)
+            .chain(broken)
+            .chain(issuers)
+            .chain(lengths)
             .chain(viewers)
             .chain(self.writers.lines())
             .chain(self.texts.lines())
@@ -551,6 +607,28 @@ impl Tally {
             .map(|(name, _)| name)
             .collect();
         (!missing.is_empty()).then(|| missing.join(", "))
+    }
+}
+
+/// The place in `LENGTHS` of what is wrong with the lengths and with nothing else
+/// of them.
+fn wrong_lengths(chain: &Chain) -> Option<usize> {
+    let pairs = chain.lengths.chunks_exact(2);
+    let odd = !pairs.remainder().is_empty();
+    let count = pairs.len();
+    let sum: usize = pairs
+        .map(|pair| usize::from(pair[0]) << 8 | usize::from(pair[1]))
+        .sum();
+    match (
+        odd,
+        count.cmp(&(MOST_ISSUERS + 1)),
+        sum.cmp(&chain.bytes.len()),
+    ) {
+        (true, Ordering::Less, _) => Some(0),
+        (false, Ordering::Equal, Ordering::Equal) => Some(1),
+        (false, Ordering::Less, Ordering::Less) => Some(2),
+        (false, Ordering::Less, Ordering::Greater) => Some(3),
+        _ => None,
     }
 }
 

@@ -7,7 +7,7 @@
 //! something that is to be shown never occurred.
 
 use second::generate::{self, Case};
-use second::{answer, list, program, verdict, Which};
+use second::{answer, list, program, Which};
 use std::path::{Path, PathBuf};
 use std::process::{Command, ExitCode, Output};
 use std::{env, fs, io, process};
@@ -53,7 +53,7 @@ fn compare(program: &Path, cases: u64, seed: u64) -> Result<(), String> {
             .then_some((number / UNREADABLE_EVERY % 4) as usize);
         let got = run(program, &case, number, unreadable)
             .map_err(|error| format!("seed {seed}, case {number}: {error}"))?;
-        let wanted = wanted(&case, unreadable);
+        let wanted = wanted(&case, number, unreadable);
         if (got.stdout.as_slice(), got.status.code()) != (wanted.0.as_bytes(), Some(wanted.1)) {
             let stdout = String::from_utf8_lossy(&got.stdout);
             return Err(format!(
@@ -62,7 +62,7 @@ fn compare(program: &Path, cases: u64, seed: u64) -> Result<(), String> {
                 got.status
             ));
         }
-        tally.count(&case, unreadable, &wanted.0);
+        tally.count(one_string(&case, number), unreadable, &wanted.0);
     }
     tally.print();
     println!("{cases} folders of seed {seed} alike");
@@ -77,10 +77,10 @@ fn compare(program: &Path, cases: u64, seed: u64) -> Result<(), String> {
 fn run(program: &Path, case: &Case, number: u64, unreadable: Option<usize>) -> io::Result<Output> {
     let folder = env::temp_dir().join(format!("programs-{}-{number}", process::id()));
     fs::create_dir(&folder)?;
-    let inputs = [
+    let inputs: [&[u8]; 4] = [
         &case.san,
         &case.subject,
-        &case.constraints,
+        one_string(case, number),
         &case.references,
     ];
     for (index, (name, bytes)) in FILES.into_iter().zip(inputs).enumerate() {
@@ -98,15 +98,23 @@ fn run(program: &Path, case: &Case, number: u64, unreadable: Option<usize>) -> i
 
 /// What standard output has to hold, and the exit status: nothing and 2 where
 /// a file cannot be read, otherwise 0 for a match and 1 for the rest.
-fn wanted(case: &Case, unreadable: Option<usize>) -> (String, i32) {
+fn wanted(case: &Case, number: u64, unreadable: Option<usize>) -> (String, i32) {
     if unreadable.is_some() {
         return (String::new(), 2);
     }
-    let (san, subject) = (&case.san, &case.subject);
-    let (constraints, references) = (&case.constraints, &case.references);
-    let answer = verdict(san, subject, constraints, references).answer;
-    let lines = program::output(san, subject, constraints, references);
-    (lines, i32::from(answer != answer::MATCH))
+    let constraints = one_string(case, number);
+    let lines = program::output(&case.san, &case.subject, constraints, &case.references);
+    let matched = lines.starts_with(&format!("{} ", answer::MATCH));
+    (lines, i32::from(!matched))
+}
+
+/// What stands in `nc.der`: one of the constraint strings.
+fn one_string(case: &Case, number: u64) -> &[u8] {
+    let strings = case.constraints.strings();
+    match strings.len() {
+        0 => &[],
+        count => strings[number as usize % count],
+    }
 }
 
 /// How often each thing occurred.
@@ -137,14 +145,13 @@ impl Default for Tally {
 }
 
 impl Tally {
-    fn count(&mut self, case: &Case, unreadable: Option<usize>, lines: &str) {
+    fn count(&mut self, constraints: &[u8], unreadable: Option<usize>, lines: &str) {
         if unreadable.is_some() {
             self.counts[11].1 += 1;
             return;
         }
         let answer = usize::from(lines.as_bytes()[0] - b'0');
         self.counts[answer].1 += 1;
-        let constraints = &case.constraints;
         let readable = list(constraints, Which::Constraints).answer == answer::MATCH;
         self.counts[8].1 += u64::from(readable && !constraints.is_empty());
         let counted = lines.contains("rows");

@@ -15,7 +15,11 @@ impl Draft {
     /// records and the restrictions.
     pub fn alike(random: &mut Random) -> Self {
         let words = Words::new(random);
-        let constrained = words.kind == SRV && !random.one_in(3);
+        let constrained = match words.kind {
+            SRV => !random.one_in(3),
+            DNS => random.one_in(3),
+            _ => false,
+        };
         let count = *random.pick(&[1, 1, 1, 2, 3]);
         let names = (0..count).map(|_| words.name(random, constrained));
         let names: Vec<Vec<u8>> = names.collect();
@@ -29,7 +33,10 @@ impl Draft {
         Draft {
             san: (!entries.is_empty()).then(|| san(entries.iter().map(entry).collect())),
             subject: Some(subject(sets.iter().map(set).collect())),
-            constraints: constrained.then(|| words.constraints(random)),
+            constraints: match constrained {
+                true => vec![Some(words.constraints(random))],
+                false => Vec::new(),
+            },
             references: records.map(|_| words.record(random)).collect(),
         }
     }
@@ -111,12 +118,13 @@ impl Words {
         }
     }
 
-    /// The service, the last labels of the domain, or both.
+    /// The service, the last labels of the domain, or both; of a dNSName the last
+    /// labels.
     fn restriction(&self, random: &mut Random) -> Node {
         let last = last_labels(random, &self.domain);
         let text = match random.below(3) {
-            0 => [b"_", self.service.as_slice()].concat(),
-            1 => name_text(SRV, &self.service, last),
+            0 if self.kind == SRV => [b"_", self.service.as_slice()].concat(),
+            1 if self.kind == SRV => name_text(SRV, &self.service, last),
             _ => last.to_vec(),
         };
         let text = match random.below(16) {
@@ -124,7 +132,7 @@ impl Words {
             1..=5 => other_byte(random, text),
             _ => other_case(random, text),
         };
-        subtree(srv_name(&text))
+        subtree(general_name(self.kind, &text))
     }
 }
 

@@ -1,18 +1,20 @@
 //! A fixed table of cases: every limit, every tag, every small text.
 
 mod far;
+mod issuers;
 mod labels;
 mod lengths;
 mod letters;
 mod numbers;
 mod rows;
+mod subtrees;
 mod uris;
 pub mod writers;
 
 use super::draft::{padded_constraints, padded_san, padded_subject};
 use super::mutate::{nth, size};
 use super::words::deep_domain;
-use super::Case;
+use super::{Case, Chain};
 use crate::examples::{domain_of, J, S};
 use crate::longest;
 use crate::records::kind::{CN, DNS, SRV, URI};
@@ -43,11 +45,13 @@ pub fn each(take: Taker) {
     every_byte(take);
     small_texts(take);
     far::each(take);
+    issuers::each(take);
     labels::each(take);
     lengths::each(take);
     letters::each(take);
     numbers::each(take);
     rows::each(take);
+    subtrees::each(take);
     uris::each(take);
 }
 
@@ -57,7 +61,7 @@ fn base() -> Case {
     Case {
         san: S.to_vec(),
         subject: J.to_vec(),
-        constraints: Vec::new(),
+        constraints: Chain::default(),
         references,
     }
 }
@@ -79,7 +83,9 @@ fn longest_inputs(take: Taker) {
                 ..base()
             },
         ));
-        let constraints = padded_constraints(longest::CONSTRAINTS - 1 + more).write();
+        let constraints = padded_constraints(longest::CONSTRAINTS - 1 + more)
+            .write()
+            .into();
         take((
             what("constraints"),
             Case {
@@ -276,7 +282,7 @@ fn restricted(name: &[u8], restriction: &[u8]) -> Vec<Line> {
     let line = |(permitted, excluded)| {
         let case = Case {
             san: san(vec![dns_name(b"a.b"), srv_name(name)]).write(),
-            constraints: constraints(permitted, excluded).write(),
+            constraints: constraints(permitted, excluded).write().into(),
             ..base()
         };
         let what = format!("subtree of {} bytes for {}", restriction.len(), name.len());
@@ -303,12 +309,12 @@ fn entry_counts(take: Taker) {
 fn answer_order(take: Taker) {
     let mut broken = vec![base()];
     broken[0].san = san(vec![dns_name(b"a.b"), srv_name(b"_n.b")]).write();
-    broken[0].constraints = constraints(vec![subtree(srv_name(b"_m"))], Vec::new()).write();
+    broken[0].constraints = permitted(srv_name(b"_m")).into();
     for input in 0..4 {
         for case in broken.clone() {
             for length in [2, longest::SAN + 1] {
                 let mut worse = case.clone();
-                *field(&mut worse, input) = vec![0x30; length];
+                put(&mut worse, input, vec![0x30; length]);
                 broken.push(worse);
             }
         }
@@ -328,7 +334,9 @@ fn broken_names(take: Taker) {
         let entry = |place: u32| srv_name(texts[number >> (2 * place) & 3]);
         let case = Case {
             san: san((0..4).map(entry).collect()).write(),
-            constraints: constraints(permitted.clone(), excluded.clone()).write(),
+            constraints: constraints(permitted.clone(), excluded.clone())
+                .write()
+                .into(),
             references: record(SRV, b"m", b"b.c"),
             ..base()
         };
@@ -336,14 +344,23 @@ fn broken_names(take: Taker) {
     }
 }
 
-/// One of the four inputs.
-fn field(case: &mut Case, input: usize) -> &mut Vec<u8> {
+/// Puts these bytes in the place of one of the four inputs.
+fn put(case: &mut Case, input: usize, bytes: Vec<u8>) {
     match input {
-        0 => &mut case.san,
-        1 => &mut case.subject,
-        2 => &mut case.constraints,
-        _ => &mut case.references,
+        0 => case.san = bytes,
+        1 => case.subject = bytes,
+        2 => case.constraints = bytes.into(),
+        _ => case.references = bytes,
     }
+}
+
+/// A string that permits one subtree, and one that excludes it.
+fn permitted(base: Node) -> Vec<u8> {
+    constraints(vec![subtree(base)], Vec::new()).write()
+}
+
+fn excluded(base: Node) -> Vec<u8> {
+    constraints(Vec::new(), vec![subtree(base)]).write()
 }
 
 /// All sets of up to three attributes, under SANs that keep a CN from counting
@@ -431,14 +448,14 @@ fn with(input: usize, bytes: Vec<u8>) -> Case {
     let mut case = Case {
         san: san.write(),
         subject: subject.write(),
-        constraints: constraints.write(),
+        constraints: constraints.write().into(),
         references,
     };
     if input == 1 {
         // A CN counts only without the other names.
         case.san = Vec::new();
     }
-    *field(&mut case, input) = bytes;
+    put(&mut case, input, bytes);
     case
 }
 
@@ -643,14 +660,13 @@ fn small_srv_names(take: Taker) {
     for text in texts(b"_a.0", 6).into_iter().skip(1) {
         take(small("small SRVName", srv_name(&text), &references));
     }
-    let permitted = |text: &[u8]| constraints(vec![subtree(srv_name(text))], Vec::new()).write();
     for text in texts(b"_a.-0", 5).into_iter().skip(1) {
         let name = srv_name(&text);
         let mut line = small("small SRVName under a subtree", name, &references);
-        line.1.constraints = permitted(b"a");
+        line.1.constraints = permitted(srv_name(b"a")).into();
         take(line);
         let mut line = small("small subtree", srv_name(b"_a.0.a"), &references);
-        line.1.constraints = permitted(&text);
+        line.1.constraints = permitted(srv_name(&text)).into();
         take(line);
     }
 }

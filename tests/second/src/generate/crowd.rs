@@ -29,7 +29,10 @@ impl Draft {
         Draft {
             san: (!entries.is_empty()).then(|| san(entries)),
             subject: Some(subject(sets)),
-            constraints: random.one_in(3).then(|| constraints(permitted, Vec::new())),
+            constraints: match random.below(3) {
+                0 => one_issuer(permitted, Vec::new()),
+                _ => Vec::new(),
+            },
             references: references(random, pool, &[DNS, DNS, DNS, CN]),
         }
     }
@@ -50,7 +53,7 @@ impl Draft {
         Draft {
             san: Some(san(entries)),
             subject: small_subject(random, pool),
-            constraints: None,
+            constraints: Vec::new(),
             references: references(random, pool, &[kind]),
         }
     }
@@ -78,7 +81,7 @@ impl Draft {
         Draft {
             san: Some(san(entries)),
             subject: small_subject(random, pool),
-            constraints: Some(constraints(permitted, excluded)),
+            constraints: one_issuer(permitted, excluded),
             references: references(random, pool, &[SRV]),
         }
     }
@@ -97,7 +100,7 @@ impl Draft {
         Draft {
             san: Some(san(entries)),
             subject: small_subject(random, pool),
-            constraints: Some(constraints(permitted, excluded)),
+            constraints: one_issuer(permitted, excluded),
             references: references(random, pool, &[SRV]),
         }
     }
@@ -113,7 +116,7 @@ impl Draft {
         Draft {
             san: random.one_in(3).then(|| san(vec![idle_entry(random)])),
             subject: Some(subject(sets)),
-            constraints: None,
+            constraints: Vec::new(),
             references: references(random, pool, &[CN]),
         }
     }

@@ -2,17 +2,19 @@
 
 use super::crowd::{alike_set, wide_set};
 use super::words::{near_miss, numbered, one_label, Pool};
-use super::{Case, Random};
-use crate::longest;
+use super::{Case, Chain, Random};
+use crate::examples::domain_of;
 use crate::records::kind::{CN, DNS, SRV, URI};
-use crate::text::{has_two_labels, is_domain, is_scheme, is_service};
+use crate::text::{has_two_labels, is_domain, is_scheme, is_service, LONGEST_DOMAIN};
 use crate::tree::*;
+use crate::{longest, MOST_ISSUERS};
 
-/// Three trees, each perhaps absent, and the records.
+/// Trees, each perhaps absent, and the records. There is one tree of constraints
+/// for each issuer.
 pub struct Draft {
     pub san: Option<Node>,
     pub subject: Option<Node>,
-    pub constraints: Option<Node>,
+    pub constraints: Vec<Option<Node>>,
     pub references: Vec<Vec<u8>>,
 }
 
@@ -22,7 +24,7 @@ impl Draft {
         Case {
             san: write(&self.san),
             subject: write(&self.subject),
-            constraints: write(&self.constraints),
+            constraints: Chain::new(self.constraints.iter().map(write)),
             references: self.references.concat(),
         }
     }
@@ -35,9 +37,10 @@ impl Draft {
         Draft {
             san: Some(san(entries)),
             subject: small_subject(random, pool),
-            constraints: random
-                .one_in(4)
-                .then(|| constraints(other_subtrees(random), Vec::new())),
+            constraints: match random.below(4) {
+                0 => one_issuer(other_subtrees(random), Vec::new()),
+                _ => Vec::new(),
+            },
             references: references(random, pool, &[DNS, DNS, SRV, URI, URI, CN]),
         }
     }
@@ -59,7 +62,7 @@ impl Draft {
         Draft {
             san: (!absent).then(|| san(entries)),
             subject: Some(subject(sets)),
-            constraints: None,
+            constraints: Vec::new(),
             references: references(random, pool, &[CN, CN, CN, CN, DNS, SRV]),
         }
     }
@@ -80,7 +83,7 @@ impl Draft {
         Draft {
             san: Some(san(entries)),
             subject: small_subject(random, pool),
-            constraints: Some(constraints(permitted, excluded)),
+            constraints: one_issuer(permitted, excluded),
             references: references(random, pool, &[SRV, SRV, SRV, DNS, URI, CN]),
         }
     }
@@ -96,12 +99,12 @@ impl Draft {
             }))
         });
         let side = |random: &mut Random, least| {
-            several(random, least, |random| subtree(uneven_name(random, pool)))
+            several(random, least, |random| uneven_subtree(random, pool))
         };
         Draft {
             san: Some(san(several(random, 1, |random| uneven_name(random, pool)))),
             subject: Some(subject(sets)),
-            constraints: Some(constraints(side(random, 0), side(random, 1))),
+            constraints: one_issuer(side(random, 0), side(random, 1)),
             references: references(random, pool, &[DNS, SRV, CN]),
         }
     }
@@ -118,7 +121,12 @@ impl Draft {
                     &pool.dns_id(random),
                 ))
             }
-            2 => draft.constraints = Some(padded_constraints(longest::CONSTRAINTS - 2 + more)),
+            2 => {
+                let longest = padded_constraints(longest::CONSTRAINTS - 2 + more);
+                draft.constraints = vec![None; random.below(MOST_ISSUERS)];
+                let place = random.place(draft.constraints.len());
+                draft.constraints.insert(place, Some(longest));
+            }
             _ => {
                 let mut bytes = reference(random, pool, DNS).repeat(17);
                 bytes.truncate(*random.pick(&[5119, 5120, 5120, 5121, 5440]));
@@ -127,6 +135,11 @@ impl Draft {
         }
         draft
     }
+}
+
+/// The string of one issuer.
+pub fn one_issuer(permitted: Vec<Node>, excluded: Vec<Node>) -> Vec<Option<Node>> {
+    vec![Some(constraints(permitted, excluded))]
 }
 
 /// Up to four nodes.
@@ -146,6 +159,15 @@ fn uneven_name(random: &mut Random, pool: &Pool) -> Node {
         0 => srv_name(&pool.srv_id(random)),
         _ => uneven(random, &[0x81, 0x82, 0x86, 0x87, 0x88, 0xA4]),
     }
+}
+
+/// A subtree of any length that is read.
+fn uneven_subtree(random: &mut Random, pool: &Pool) -> Node {
+    subtree(match random.below(6) {
+        0 => srv_name(&pool.srv_id(random)),
+        1 => dns_name(&domain_of(random.spread(LONGEST_DOMAIN))),
+        _ => uneven(random, &[0x81, 0x86, 0x87, 0x88, 0xA4]),
+    })
 }
 
 /// A SAN of exactly this many bytes, with one dNSName at its end.
@@ -280,7 +302,7 @@ fn numbered_entry(random: &mut Random, pool: &Pool) -> Node {
     }
 }
 
-fn dns_text(random: &mut Random, pool: &Pool) -> Vec<u8> {
+pub fn dns_text(random: &mut Random, pool: &Pool) -> Vec<u8> {
     let text = pool.dns_id(random);
     match random.below(12) {
         0 => Vec::new(),
@@ -443,10 +465,10 @@ pub fn other_subtrees(random: &mut Random) -> Vec<Node> {
     let one = |random: &mut Random| match random.below(4) {
         0 => {
             let name = *random.pick(&[b"example".as_slice(), b"10.4.0.7"]);
-            dns_name(name)
+            uri_name(name)
         }
         1 => uri_name(b".example"),
-        2 => dns_name(b""),
+        2 => email(b""),
         _ => other_entry(random),
     };
     (0..random.between(1, 2))

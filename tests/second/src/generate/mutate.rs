@@ -3,7 +3,7 @@
 
 use super::draft::Draft;
 use super::flips::{flipped, other_case, CASE_BIT};
-use super::{Case, Random};
+use super::{Case, Chain, Random};
 use crate::records::{DOMAIN, SERVICE};
 use crate::tree::{bytes, Body, Length, Node};
 
@@ -13,13 +13,20 @@ const TAGS: [u8; 33] = [
     0xFF,
 ];
 
-/// Changes one element of one of the three trees, or leaves a tree out.
+/// The tree of one issuer's constraints, if there is an issuer.
+fn issuer<'d>(random: &mut Random, draft: &'d mut Draft) -> Option<&'d mut Option<Node>> {
+    let place = random.below(draft.constraints.len().max(1));
+    draft.constraints.get_mut(place)
+}
+
+/// Changes one element of one of the trees, or leaves a tree out.
 pub fn draft(random: &mut Random, draft: &mut Draft) {
     let tree = match random.below(3) {
-        0 => &mut draft.san,
-        1 => &mut draft.subject,
-        _ => &mut draft.constraints,
+        0 => Some(&mut draft.san),
+        1 => Some(&mut draft.subject),
+        _ => issuer(random, draft),
     };
+    let Some(tree) = tree else { return };
     if random.one_in(12) {
         *tree = None;
     }
@@ -32,9 +39,9 @@ pub fn draft(random: &mut Random, draft: &mut Draft) {
 /// Turns bit 20 (hex) of some bytes in one text: of a tree, or of a record.
 pub fn texts(random: &mut Random, draft: &mut Draft) {
     let tree = match random.below(5) {
-        0..=1 => &mut draft.san,
-        2 => &mut draft.subject,
-        3 => &mut draft.constraints,
+        0..=1 => Some(&mut draft.san),
+        2 => Some(&mut draft.subject),
+        3 => issuer(random, draft),
         _ => {
             let place = random.below(draft.references.len().max(1));
             if let Some(record) = draft.references.get_mut(place) {
@@ -43,7 +50,7 @@ pub fn texts(random: &mut Random, draft: &mut Draft) {
             return;
         }
     };
-    if let Some(root) = tree {
+    if let Some(Some(root)) = tree {
         let chosen = random.below(size(root));
         flip_last(random, nth(root, chosen));
     }
@@ -131,12 +138,29 @@ pub fn case(random: &mut Random, case: &mut Case) {
     let input = match random.below(4) {
         0 => &mut case.san,
         1 => &mut case.subject,
-        2 => &mut case.constraints,
+        2 => return one_string(random, &mut case.constraints),
         _ => &mut case.references,
     };
     for _ in 0..random.between(1, 2) {
         edit(random, input);
     }
+}
+
+/// Changes the bytes of one issuer's string, and its length with them.
+fn one_string(random: &mut Random, chain: &mut Chain) {
+    let mut strings: Vec<Vec<u8>> = chain
+        .strings()
+        .iter()
+        .map(|string| string.to_vec())
+        .collect();
+    if strings.is_empty() {
+        strings.push(Vec::new());
+    }
+    let place = random.below(strings.len());
+    for _ in 0..random.between(1, 2) {
+        edit(random, &mut strings[place]);
+    }
+    *chain = Chain::new(strings);
 }
 
 /// One change of a byte string: a bit, a byte, a cut, a copy or a long length.

@@ -227,6 +227,7 @@ impl<'a> Exact<'a> {
             san: &san,
             subject: &subject,
             constraints: &[],
+            lengths: &[],
             references,
         };
         let verdict = archive::judge(inputs).verdict;

@@ -1,6 +1,6 @@
 //! One name that decides, behind a fixed number of names that do not.
 
-use super::{base, field, nth, size, Body, Case, Length, Node, Taker};
+use super::{base, nth, permitted, put, size, Body, Case, Length, Node, Taker};
 use crate::records::kind::{CN, DNS, SRV, URI};
 use crate::tree::*;
 
@@ -53,7 +53,7 @@ fn idle_attribute() -> Node {
 /// A name of each kind that matches, that keeps a CN from counting, that makes
 /// the SAN unreadable, or that breaks the constraints.
 fn entries(take: Taker, before: usize) {
-    let narrow = constraints(vec![subtree(srv_name(b"_n"))], Vec::new()).write();
+    let narrow = permitted(srv_name(b"_n"));
     let names = [
         (dns_name(b"a.b"), DNS, Vec::new()),
         (srv_name(b"_m.a.b"), SRV, Vec::new()),
@@ -72,7 +72,7 @@ fn entries(take: Taker, before: usize) {
         let service: &[u8] = if matches!(kind, SRV | URI) { b"m" } else { b"" };
         let case = Case {
             san: san(behind(&idle_entry(), before, name)).write(),
-            constraints,
+            constraints: constraints.into(),
             references: record(kind, service, b"a.b"),
             ..base()
         };
@@ -85,7 +85,7 @@ fn kept_names(take: Taker, before: usize) {
     for last in [b"_n.b.c".as_slice(), b"_m.b", b"_m.b.c.", b"_m.b.c"] {
         let case = Case {
             san: san(behind(&srv_name(b"_m.b.c"), before, srv_name(last))).write(),
-            constraints: constraints(vec![subtree(srv_name(b"_M.C"))], Vec::new()).write(),
+            constraints: permitted(srv_name(b"_M.C")).into(),
             references: record(SRV, b"m", b"b.c"),
             ..base()
         };
@@ -147,7 +147,7 @@ fn alike(take: Taker, before: usize) {
 /// A restriction that decides, behind others that hold no name and behind
 /// other forms; permitted, excluded, and excluded behind permitted ones.
 fn subtrees(take: Taker, before: usize) {
-    let idle = [srv_name(b"_i"), srv_name(b"i.b"), dns_name(b"")].map(subtree);
+    let idle = [srv_name(b"_i"), srv_name(b"i.b"), email(b"")].map(subtree);
     let wide = || vec![subtree(srv_name(b"b"))];
     for idle in &idle {
         for text in [b"_m".as_slice(), b"b", b"_m.b", b"x.b"] {
@@ -161,7 +161,7 @@ fn subtrees(take: Taker, before: usize) {
             for (permitted, excluded) in sides {
                 let case = Case {
                     san: san(vec![dns_name(b"c.d"), srv_name(b"_M.a.B")]).write(),
-                    constraints: constraints(permitted, excluded).write(),
+                    constraints: constraints(permitted, excluded).write().into(),
                     references: record(SRV, b"m", b"a.b"),
                     ..base()
                 };
@@ -185,7 +185,7 @@ fn spoilt(take: Taker, before: usize) {
                 let mut last = name.clone();
                 spoil(nth(&mut last, place), way);
                 let mut case = base();
-                *field(&mut case, input) = string(input, behind(idle, before, last));
+                put(&mut case, input, string(input, behind(idle, before, last)));
                 take((format!("element {place} spoilt behind {before}"), case));
             }
         }

@@ -1,7 +1,7 @@
 //! Request 1/13: one label and two, after a wildcard, in a record, in a
 //! presented name and in a restriction.
 
-use super::{base, constrained, mixed, same, small, wildcard, Case, Taker};
+use super::{base, constrained, mixed, permitted, put, same, small, wildcard, Case, Taker};
 use crate::longest;
 use crate::records::kind::{CN, DNS, SRV, URI};
 use crate::records::MOST_RECORDS;
@@ -102,7 +102,7 @@ fn names(take: Taker, label: &[u8]) {
             let side = || vec![subtree(srv_name(&restriction))];
             for (permitted, excluded) in [(side(), Vec::new()), (Vec::new(), side())] {
                 let mut line = small("name below a restriction", name.clone(), &references);
-                line.1.constraints = constraints(permitted, excluded).write();
+                line.1.constraints = constraints(permitted, excluded).write().into();
                 take(line);
             }
         }
@@ -169,12 +169,12 @@ fn order(take: Taker) {
     for (input, length) in [(0, 2), (1, 2), (2, 2), (0, longest::SAN + 1)] {
         let mut case = base();
         case.references.extend(record(DNS, b"", b"b"));
-        *super::field(&mut case, input) = vec![0x30; length];
+        put(&mut case, input, vec![0x30; length]);
         take(("one label, and another refusal".to_string(), case));
     }
     let mut broken = base();
     broken.san = san(vec![srv_name(b"_n.b")]).write();
-    broken.constraints = constraints(vec![subtree(srv_name(b"_m"))], Vec::new()).write();
+    broken.constraints = permitted(srv_name(b"_m")).into();
     broken.references = record(SRV, b"n", b"b");
     take(("one label, and a broken name".to_string(), broken));
     for more in [0, 1] {

@@ -216,7 +216,7 @@ fn every_pair(take: Taker) {
             for (permitted, excluded) in [(side.clone(), Vec::new()), (Vec::new(), side)] {
                 let case = Case {
                     san: san(vec![dns_name(b"a.b"), srv_name(&around(name, byte))]).write(),
-                    constraints: constraints(permitted, excluded).write(),
+                    constraints: constraints(permitted, excluded).write().into(),
                     ..base()
                 };
                 take((format!("restrictions without {byte:02X}"), case));

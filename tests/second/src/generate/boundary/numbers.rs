@@ -1,7 +1,10 @@
 //! Request 2/13: "the last label of a domain may not be all digits", in every
 //! place that has a domain.
 
-use super::{base, constrained, every_role, labels_of, same, small, wildcard, Case, Taker};
+use super::{
+    base, constrained, every_role, excluded, labels_of, permitted, put, same, small, wildcard,
+    Case, Taker,
+};
 use crate::longest;
 use crate::records::kind::{CN, DNS, SRV, URI};
 use crate::tree::*;
@@ -110,8 +113,7 @@ fn ports(take: Taker, label: &[u8]) {
 
 /// One subtree, permitted and excluded.
 fn sides(base: Node) -> [Vec<u8>; 2] {
-    let side = || vec![subtree(base.clone())];
-    [(side(), vec![]), (vec![], side())].map(|(one, other)| constraints(one, other).write())
+    [permitted(base.clone()), excluded(base)]
 }
 
 /// The text as the domain of an SRVName behind a name that matches, under
@@ -121,14 +123,14 @@ fn srv_names(take: Taker, text: &[u8]) {
         ("m", srv_name(b"_m")),
         ("m", srv_name(b"_n")),
         ("7", srv_name(b"_7")),
-        ("m", dns_name(b"10.4.0.7")),
+        ("m", uri_name(b"10.4.0.7")),
     ];
     for (service, restriction) in restrictions {
         for constraints in sides(restriction) {
             let name = [b"_", service.as_bytes(), b".", text].concat();
             let case = Case {
                 san: san(vec![dns_name(b"a.b"), srv_name(&name)]).write(),
-                constraints,
+                constraints: constraints.into(),
                 ..base()
             };
             take(("SRVName under a restriction".to_string(), case));
@@ -136,8 +138,9 @@ fn srv_names(take: Taker, text: &[u8]) {
     }
 }
 
-/// The text in restrictions, for names that lie below it, for another and for
-/// none; and in forms that are "read and passed over".
+/// The text in SRVName restrictions, for names that lie below it, for another
+/// and for none; in a dNSName restriction; and in forms that are "read and passed
+/// over".
 fn restrictions(take: Taker, text: &[u8]) {
     let with_service = [b"_m.", text].concat();
     let below = srv_name(&[b"_m.x.", text].concat());
@@ -147,7 +150,7 @@ fn restrictions(take: Taker, text: &[u8]) {
                 let names = [vec![dns_name(b"a.b")], names].concat();
                 let case = Case {
                     san: san(names).write(),
-                    constraints: constraints.clone(),
+                    constraints: constraints.clone().into(),
                     ..base()
                 };
                 take(("restriction".to_string(), case));
@@ -155,12 +158,11 @@ fn restrictions(take: Taker, text: &[u8]) {
         }
     }
     for other in [dns_name(text), uri_name(text), email(text)] {
-        let [permitted, _] = sides(other);
         let case = Case {
-            constraints: permitted,
+            constraints: permitted(other).into(),
             ..base()
         };
-        take(("restriction of another form".to_string(), case));
+        take(("restriction that is no SRVName".to_string(), case));
     }
 }
 
@@ -248,10 +250,9 @@ fn places(take: Taker) {
 fn behind(take: Taker, before: usize, text: &[u8]) {
     let many = |idle: Node, last: Node| [vec![idle; before], vec![last]].concat();
     let what = format!("behind {before}");
-    let [_, excluded] = sides(srv_name(b"_n"));
     let case = Case {
         san: san(many(srv_name(b"_m.a.b"), srv_name(text))).write(),
-        constraints: excluded,
+        constraints: excluded(srv_name(b"_n")).into(),
         ..base()
     };
     take((what.clone(), case));
@@ -259,7 +260,7 @@ fn behind(take: Taker, before: usize, text: &[u8]) {
     for (permitted, excluded) in [(side(), vec![]), (vec![], side())] {
         let case = Case {
             san: san(vec![dns_name(b"a.b"), srv_name(b"_7.a.b")]).write(),
-            constraints: constraints(permitted, excluded).write(),
+            constraints: constraints(permitted, excluded).write().into(),
             ..base()
         };
         take((what.clone(), case));
@@ -274,7 +275,7 @@ fn order(take: Taker) {
         case.san = san(vec![dns_name(b"a.b"), srv_name(b"_m.10.4.0.7")]).write();
         let texts: [&[u8]; 2] = [b"_m", b"_m.10.4.0.7"];
         let text = texts[usize::from(bad & 1 != 0)];
-        [case.constraints, _] = sides(srv_name(text));
+        case.constraints = permitted(srv_name(text)).into();
         if bad & 2 != 0 {
             case.references.extend(record(DNS, b"", b"10.4.0.7"));
         }
@@ -284,7 +285,7 @@ fn order(take: Taker) {
         take(("digits in several places".to_string(), case.clone()));
         for (input, length) in [(0, 2), (1, 2), (2, 2), (3, 2), (0, longest::SAN + 1)] {
             let mut worse = case.clone();
-            *super::field(&mut worse, input) = vec![0x30; length];
+            put(&mut worse, input, vec![0x30; length]);
             take(("digits, and another refusal".to_string(), worse));
         }
     }

@@ -25,7 +25,7 @@ fn string(input: usize, lengths: &[usize]) -> Vec<u8> {
             subject(texts.map(|text| rdn(vec![attribute(text)])).collect())
         }
         _ => {
-            let mut subtrees = texts.map(|text| subtree(dns_name(&text)));
+            let mut subtrees = texts.map(|text| subtree(email(&text)));
             let permitted = subtrees.next().into_iter().collect();
             constraints(permitted, subtrees.collect())
         }
