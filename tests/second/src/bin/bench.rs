@@ -1,18 +1,18 @@
 //! Measures the time of one verdict through the archive and in this crate, on
-//! the same inputs in one run, and of paging through a SAN, of writing and of
-//! comparing two labels. A measurement and not a test: it fails only where the
-//! two answers differ.
+//! the same inputs in one run, without constraints and under those of eight
+//! issuers, and of paging through a SAN, of writing and of comparing two labels.
+//! A measurement and not a test: it fails only where the two answers differ.
 //!
-//! One verdict is one call: `beckethand_answer` for the archive, `verdict`,
-//! with all five numbers, for this crate.
+//! One verdict is one call: `beckethand_answer` for the archive, `judge_from_c`,
+//! with all six numbers, for this crate.
 
 use second::archive::{self, Inputs};
-use second::generate::{Case, Job};
-use second::longest;
+use second::examples::domain_of;
+use second::generate::{Case, Chain, Job};
 use second::records::kind::{DNS, SRV, URI};
 use second::text::{same_text, LONGEST_LABEL};
 use second::tree::*;
-use second::{Viewer, Which, Writer};
+use second::{judge_from_c, longest, Viewer, Which, Writer, MOST_ISSUERS};
 use std::cell::RefCell;
 use std::hint::black_box;
 use std::time::{Duration, Instant};
@@ -21,12 +21,19 @@ use std::time::{Duration, Instant};
 /// ones, so that some are not interrupted on a busy machine.
 const REPETITION: Duration = Duration::from_micros(400);
 const REPETITIONS: usize = 151;
+/// What takes longer than this is repeated a few times alone.
+const SLOW: Duration = Duration::from_millis(20);
+const FEW_REPETITIONS: usize = 3;
 
 /// Over the numbers of names and of references that begin a line.
 const NAMES_REFERENCES: &str = "names  refs";
 
 fn main() {
-    println!("best of {REPETITIONS} repetitions, ns per verdict\n");
+    println!(
+        "best of {REPETITIONS} repetitions, or of {FEW_REPETITIONS} where one takes over {} ms; \
+         ns per verdict\n",
+        SLOW.as_millis()
+    );
     for (title, form) in [
         ("dNSNames only", Form::Dns),
         ("dNSNames, SRVNames and URIs", Form::Mixed),
@@ -53,9 +60,192 @@ fn main() {
             line(&format!("{names:5} {references:5} {size} bytes"), &case.1);
         }
     }
+    issuers();
+    worst();
+    at_once();
     paging();
     writing();
     labels();
+}
+
+/// The time of holding 400 names against 40 subtrees of each of eight issuers.
+/// Every subtree is looked at for every name: the last alone permits it, or none
+/// that is excluded is broken.
+fn issuers() {
+    println!("\n400 names of 20 bytes, 40 subtrees of each of 8 issuers");
+    pairs_heading();
+    for form in [DNS, SRV] {
+        let names = names(form, 400, 20);
+        for (what, permitted) in [("permitted by the last", true), ("excluded by none", false)] {
+            let mut side = subtrees(form, 40, 20);
+            if permitted {
+                side[39] = subtree(general_name(form, b"kiosk.example"));
+            }
+            let string = match permitted {
+                true => constraints(side, Vec::new()),
+                false => constraints(Vec::new(), side),
+            };
+            constrained_line(&format!("{}, {what}", form_name(form)), &names, string, 40);
+        }
+    }
+}
+
+/// The time of the longest strings: a SAN full of names against eight strings
+/// full of excluded subtrees, none of which is broken.
+fn worst() {
+    println!("\na SAN full of names, 8 strings full of excluded subtrees that none breaks");
+    pairs_heading();
+    for form in [DNS, SRV] {
+        for size in [shortest(form), 20, 253] {
+            let (mut names, mut side) = (names(form, 6_000, size), subtrees(form, 4_000, size));
+            // Outer headers of four bytes: one of a SAN, two of constraints.
+            fill(&mut names, longest::SAN - 4);
+            fill(&mut side, longest::CONSTRAINTS - 8);
+            let what = format!("{} of {size} bytes", form_name(form));
+            let count = side.len();
+            constrained_line(&what, &names, constraints(Vec::new(), side), count);
+        }
+    }
+}
+
+fn form_name(form: u8) -> &'static str {
+    if form == SRV {
+        "SRVNames"
+    } else {
+        "dNSNames"
+    }
+}
+
+/// The bytes of the shortest name of a form: `a`, or `_a.b`.
+fn shortest(form: u8) -> usize {
+    if form == SRV {
+        4
+    } else {
+        1
+    }
+}
+
+/// A text of so many bytes. Texts of the same length are alike save for their
+/// first label, or, where they have one byte or four, for a letter.
+fn sized_text(form: u8, size: usize, first: &str) -> Vec<u8> {
+    let before: &[u8] = if form == SRV { b"_m." } else { b"" };
+    let room = size - before.len();
+    let domain = match room {
+        1 => first[..1].as_bytes().to_vec(),
+        20 | 17 => {
+            let label = &first[..room - 14];
+            format!("{label}.kiosk.example").into_bytes()
+        }
+        _ => [first.as_bytes(), b".", &domain_of(room - first.len() - 1)].concat(),
+    };
+    [before, &domain].concat()
+}
+
+/// Names of so many bytes. The first label is not that of any subtree.
+fn names(form: u8, count: usize, size: usize) -> Vec<Node> {
+    let name = |number: usize| general_name(form, &sized_text(form, size, &label('n', number)));
+    (0..count).map(name).collect()
+}
+
+/// Subtrees of so many bytes; of SRVNames the domain alone, but for the shortest.
+fn subtrees(form: u8, count: usize, size: usize) -> Vec<Node> {
+    let text = |number: usize| match size {
+        4 => b"c".to_vec(),
+        _ => sized_text(form, size, &label('s', number)),
+    };
+    (0..count)
+        .map(|number| subtree(general_name(form, &text(number))))
+        .collect()
+}
+
+/// A label of six bytes, another one for each number.
+fn label(first: char, number: usize) -> String {
+    format!("{first}{:05}", number % 100_000)
+}
+
+/// Leaves as many elements as fit.
+fn fill(nodes: &mut Vec<Node>, room: usize) {
+    let mut used = 0;
+    let mut fits = |node: &Node| {
+        used += node.write().len();
+        used <= room
+    };
+    let count = nodes.iter().take_while(|node| fits(node)).count();
+    assert!(count < nodes.len(), "more would fit");
+    nodes.truncate(count);
+}
+
+fn pairs_heading() {
+    println!(
+        "{:40}{:>14}{:>14}{:>8}{:>12}{:>8}{:>8}",
+        "", "archive", "this", "ratio", "pairs", "archive", "this"
+    );
+    println!("{:90}{:>12}", "", "ns a pair");
+}
+
+/// Measures a verdict under the same string from eight issuers.
+fn constrained_line(what: &str, names: &[Node], string: Node, subtrees: usize) {
+    let mut case = certificate(names.to_vec(), vec![record(DNS, b"", &domain(5000))]);
+    let string = string.write();
+    assert!(
+        string.len() <= longest::CONSTRAINTS,
+        "{} bytes",
+        string.len()
+    );
+    case.constraints = Chain::new(vec![string; MOST_ISSUERS]);
+    let pairs = names.len() * subtrees * MOST_ISSUERS;
+    let what = format!("{what}: {} x {subtrees} x 8", names.len());
+    let (theirs, ours) = (|| archive_answer(&case), || our_answer(&case));
+    assert_eq!(theirs(), ours(), "{what}: different answers");
+    assert_eq!(
+        ours(),
+        second::answer::MISMATCH,
+        "{what}: not every pair is looked at"
+    );
+    let (theirs, ours) = best(theirs, ours);
+    let ratio = theirs / ours;
+    let [their_pair, our_pair] = [theirs, ours].map(|time| time / pairs as f64);
+    println!(
+        "{what:40}{theirs:14.1}{ours:14.1}{ratio:8.2}{pairs:12}{their_pair:8.2}{our_pair:8.2}"
+    );
+}
+
+/// The time of all numbers of a verdict: by `beckethand_verdict`, and by the
+/// eight calls for one number each.
+fn at_once() {
+    println!("\nall numbers of a verdict through the archive, ns");
+    println!(
+        "{:40}{:>14}{:>14}{:>8}",
+        "", "eight calls", "one call", "ratio"
+    );
+    let plain = sample(40, 16, Hit::Last, Form::Dns);
+    let mut issued = plain.clone();
+    let side = subtrees(DNS, 40, 20);
+    let string = constraints(Vec::new(), side).write();
+    issued.constraints = Chain::new(vec![string; MOST_ISSUERS]);
+    for (what, case) in [
+        ("40 names, 16 refs", plain),
+        ("the same, 8 x 40 subtrees", issued),
+    ] {
+        let eight = || {
+            black_box(archive::judge(black_box(inputs(&case))))
+                .verdict
+                .answer
+        };
+        let one = || {
+            black_box(archive::judge_at_once(black_box(inputs(&case))))
+                .verdict
+                .answer
+        };
+        assert_eq!(
+            archive::judge(inputs(&case)),
+            archive::judge_at_once(inputs(&case)),
+            "{what}"
+        );
+        assert_eq!(eight(), second::answer::MATCH, "{what}");
+        let (eight, one) = best(eight, one);
+        println!("{what:40}{eight:14.1}{one:14.1}{:8.2}", eight / one);
+    }
 }
 
 /// The time of paging through a SAN.
@@ -258,7 +448,7 @@ fn certificate(entries: Vec<Node>, records: Vec<Vec<u8>>) -> Case {
     let case = Case {
         san: san(entries).write(),
         subject: subject(sets).write(),
-        constraints: Vec::new(),
+        constraints: Chain::default(),
         references: records.concat(),
     };
     assert!(
@@ -275,17 +465,23 @@ fn heading(what: &str) {
 
 /// Measures the verdict of one case.
 fn line(what: &str, case: &Case) {
-    let theirs = || archive::answer(black_box(inputs(case)));
-    let ours = || {
-        let Inputs {
-            san,
-            subject,
-            constraints,
-            references,
-        } = black_box(inputs(case));
-        black_box(second::verdict(san, subject, constraints, references)).answer
-    };
-    both(what, theirs, ours);
+    both(what, || archive_answer(case), || our_answer(case));
+}
+
+fn archive_answer(case: &Case) -> u32 {
+    archive::answer(black_box(inputs(case)))
+}
+
+fn our_answer(case: &Case) -> u32 {
+    let Inputs {
+        san,
+        subject,
+        constraints,
+        lengths,
+        references,
+    } = black_box(inputs(case));
+    let outcome = judge_from_c(san, subject, constraints, lengths, references);
+    black_box(outcome.verdict).answer
 }
 
 /// Measures the same both ways and prints a line of the table.
@@ -299,16 +495,22 @@ fn inputs(case: &Case) -> Inputs<'_> {
     Inputs {
         san: &case.san,
         subject: &case.subject,
-        constraints: &case.constraints,
+        constraints: &case.constraints.bytes,
+        lengths: &case.constraints.lengths,
         references: &case.references,
     }
 }
 
 /// The least ns per call of two functions, measured in turn.
 fn best(one: impl Fn() -> u32, other: impl Fn() -> u32) -> (f64, f64) {
+    let slowest = time(&one, 1).max(time(&other, 1));
+    let repetitions = match slowest > SLOW.as_nanos() as f64 {
+        true => FEW_REPETITIONS,
+        false => REPETITIONS,
+    };
     let calls = (calls(&one), calls(&other));
     let mut least = (f64::MAX, f64::MAX);
-    for _ in 0..REPETITIONS {
+    for _ in 0..repetitions {
         least.0 = least.0.min(time(&one, calls.0));
         least.1 = least.1.min(time(&other, calls.1));
     }
