@@ -28,7 +28,7 @@ fn every_number_is_in_the_table() {
     let wanted = wanted.chain((1..=15).map(|number| format!("I{number}")));
     let wanted = wanted.chain((17..=33).map(|number| format!("I{number}")));
     let wanted = wanted.chain((37..=38).map(|number| format!("I{number}")));
-    let wanted = wanted.chain((41..=66).map(|number| format!("I{number}")));
+    let wanted = wanted.chain((41..=68).map(|number| format!("I{number}")));
     for number in wanted.chain(["F1", "F2", "F3", "F4"].map(String::from)) {
         assert!(numbers.contains(&number), "{number} is missing");
     }

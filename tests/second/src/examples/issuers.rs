@@ -126,7 +126,7 @@ fn counts() -> Vec<Example> {
 /// "lengths with another sum, is 7 [...] From C each length is two bytes, high
 /// first; an odd count is 7." The string has 11 bytes.
 fn lengths() -> Vec<Example> {
-    let lengths: [(&str, &[u8], [u32; 6]); 15] = [
+    let lengths: [(&str, &[u8], [u32; 6]); 17] = [
         ("I17", &[0, 11], MATCH),
         ("I18", &[11, 0], bare(7)),
         ("I19", &[], bare(7)),
@@ -142,6 +142,8 @@ fn lengths() -> Vec<Example> {
         ("I29", &[1, 11], bare(7)),
         ("I30", &[0xFF, 0xFF, 0, 12], bare(7)),
         ("I31", &[0xFF, 0xF5, 0, 22], bare(7)),
+        ("I67", &[0x40, 0, 0x40, 0, 0x40, 0, 0x40, 0, 0, 11], bare(7)),
+        ("I68", &[0, 11, 0x40, 0, 0x40, 0, 0x40, 0, 0x40, 0], bare(7)),
     ];
     let mut table = Vec::new();
     for (number, lengths, verdict) in lengths {

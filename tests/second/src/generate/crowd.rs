@@ -58,50 +58,60 @@ impl Draft {
         }
     }
 
-    /// One or two SRVNames that may break the constraints among up to 8,000
-    /// entries that do not.
+    /// One or two names of a form that may break the constraints among up to
+    /// 8,000 entries that do not.
     pub fn far_broken(random: &mut Random, pool: &Pool) -> Self {
-        let kept = pool.srv_id(random);
+        let form = *random.pick(&[DNS, SRV]);
+        let kept = presented(random, pool, form);
         let idle = match random.below(2) {
-            0 => srv_name(&kept),
+            0 => general_name(form, &kept),
             _ => idle_entry(random),
         };
         let mut entries = crowd(random, idle, SAN_ROOM);
         for _ in 0..random.between(1, 2) {
-            let name = srv_name(&srv_text(random, pool, 2));
+            let name = match form {
+                DNS => dns_name(&dns_text(random, pool)),
+                _ => srv_name(&srv_text(random, pool, 2)),
+            };
             insert(random, &mut entries, name);
         }
         let around = kept.splitn(2, |&byte| byte == b'.').nth(random.below(2));
-        let around = subtree(srv_name(around.unwrap_or(b"_m")));
+        let around = match around {
+            Some(text) if text != b"*" => text,
+            _ => b"a",
+        };
+        let around = subtree(general_name(form, around));
         let (permitted, excluded) = match random.below(4) {
-            0 => (Vec::new(), vec![idle_subtree(random)]),
-            1 => (vec![around], vec![srv_subtree(random, pool)]),
+            0 => (Vec::new(), vec![idle_subtree(random, form)]),
+            1 => (vec![around], vec![form_subtree(random, pool, form)]),
             _ => (vec![around], Vec::new()),
         };
         Draft {
             san: Some(san(entries)),
             subject: small_subject(random, pool),
             constraints: one_issuer(permitted, excluded),
-            references: references(random, pool, &[SRV]),
+            references: references(random, pool, &[form]),
         }
     }
 
-    /// One SRVName subtree that may decide in each side, among many that hold
+    /// One subtree of a form that may decide in each side, among many that hold
     /// no name.
     pub fn far_subtree(random: &mut Random, pool: &Pool) -> Self {
+        let form = *random.pick(&[DNS, SRV]);
+        let side = |random: &mut Random| crowded_side(random, pool, form);
         let (permitted, excluded) = match random.below(3) {
-            0 => (crowded_side(random, pool), Vec::new()),
-            1 => (Vec::new(), crowded_side(random, pool)),
-            _ => (crowded_side(random, pool), crowded_side(random, pool)),
+            0 => (side(random), Vec::new()),
+            1 => (Vec::new(), side(random)),
+            _ => (side(random), side(random)),
         };
         let entries = (0..random.between(1, 3))
-            .map(|_| srv_name(&srv_text(random, pool, 12)))
+            .map(|_| general_name(form, &presented(random, pool, form)))
             .collect();
         Draft {
             san: Some(san(entries)),
             subject: small_subject(random, pool),
             constraints: one_issuer(permitted, excluded),
-            references: references(random, pool, &[SRV]),
+            references: references(random, pool, &[form]),
         }
     }
 
@@ -156,25 +166,43 @@ fn idle_entry(random: &mut Random) -> Node {
     )
 }
 
+/// The text of a name that is held against subtrees of its form.
+fn presented(random: &mut Random, pool: &Pool, form: u8) -> Vec<u8> {
+    match form {
+        DNS => pool.dns_id(random),
+        _ => srv_text(random, pool, 12),
+    }
+}
+
+/// A subtree of a form that may hold a name of the pool.
+fn form_subtree(random: &mut Random, pool: &Pool, form: u8) -> Node {
+    match form {
+        DNS => subtree(dns_name(&pool.around(random))),
+        _ => srv_subtree(random, pool),
+    }
+}
+
 /// Subtrees that hold no name, and at any place among them one that may.
-fn crowded_side(random: &mut Random, pool: &Pool) -> Vec<Node> {
+fn crowded_side(random: &mut Random, pool: &Pool, form: u8) -> Vec<Node> {
     let mut side: Vec<Node> = (0..random.spread(MOST_SUBTREES))
-        .map(|_| idle_subtree(random))
+        .map(|_| idle_subtree(random, form))
         .collect();
-    let one = srv_subtree(random, pool);
+    let one = form_subtree(random, pool, form);
     insert(random, &mut side, one);
     side
 }
 
 /// A subtree that holds no name of a pool: of another form, or of words that
 /// no pool has.
-fn idle_subtree(random: &mut Random) -> Node {
+fn idle_subtree(random: &mut Random, form: u8) -> Node {
     const TEXTS: [&[u8]; 4] = [b"_idle", b"idle.a", b"_idle.a", b"_idle.idle"];
-    let text = *random.pick(&TEXTS);
+    const DOMAINS: [&[u8]; 3] = [b"idle", b"idle.a", b"q.idle"];
+    let texts = if form == DNS { &DOMAINS[..] } else { &TEXTS };
+    let text = *random.pick(texts);
     subtree(match random.below(6) {
-        0 => dns_name(b"a"),
+        0 => dns_name(b"idle"),
         1 => other_entry(random),
-        _ => srv_name(text),
+        _ => general_name(form, text),
     })
 }
 

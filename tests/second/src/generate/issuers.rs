@@ -275,7 +275,7 @@ fn crooked(random: &mut Random, text: Vec<u8>) -> Vec<u8> {
 pub fn spoil_lengths(random: &mut Random, chain: &mut Chain) {
     let lengths = &mut chain.lengths;
     let one = 2 * random.below((lengths.len() / 2).max(1));
-    match random.below(13) {
+    match random.below(14) {
         0 => drop(lengths.pop()),
         1 => lengths.push(0),
         2 => lengths.insert(0, 0),
@@ -292,6 +292,11 @@ pub fn spoil_lengths(random: &mut Random, chain: &mut Chain) {
             change(lengths, one + 2, -1);
         }
         11 => lengths.clear(),
+        12 => {
+            // The right sum, less what 16 bits hold.
+            let place = 2 * random.place(lengths.len() / 2);
+            drop(lengths.splice(place..place, [0x40, 0].repeat(4)));
+        }
         _ => chain.bytes.push(random.byte()),
     }
     if random.one_in(8) {

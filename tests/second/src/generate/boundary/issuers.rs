@@ -96,6 +96,12 @@ fn spoilt(lengths: &[u8]) -> Vec<Vec<u8>> {
         all.push([lengths, &more].concat());
         all.push([&more, lengths].concat());
     }
+    // The right sum, less what 16 bits hold.
+    for more in [[0x40, 0].repeat(4), [0x20, 0].repeat(8)] {
+        all.push([lengths, &more].concat());
+        all.push([&more, lengths].concat());
+        all.push(more);
+    }
     for end in [1, 2, 3] {
         if let Some(left) = lengths.len().checked_sub(end) {
             all.push(lengths[..left].to_vec());
