@@ -19,6 +19,7 @@ pub fn each(take: Taker) {
     several_names(take);
     one_of_eight(take);
     two_of_eight(take);
+    long_strings(take);
     one_by_one(take);
     order(take);
 }
@@ -280,6 +281,34 @@ fn two_of_eight(take: Taker) {
                     ..under(chain(&strings))
                 };
                 take((format!("issuers {first} and {second}"), case));
+            }
+        }
+    }
+}
+
+/// Long strings in which the last subtree decides, at each issuer; the others'
+/// are empty, or as long and kept.
+fn long_strings(take: Taker) {
+    for size in [200, 300, 1_000, 5_000, 16_200] {
+        let idle = vec![subtree(dns_name(b"idle.z")); size / 10];
+        let deciding = |text: &[u8], excluded: bool| {
+            let mut side = idle.clone();
+            side.push(subtree(dns_name(text)));
+            match excluded {
+                false => constraints(side, Vec::new()).write(),
+                true => constraints(Vec::new(), side).write(),
+            }
+        };
+        let kept = deciding(b"b", false);
+        for issuer in 0..MOST_ISSUERS {
+            for (text, excluded) in [(b"c", false), (b"b", true), (b"c", true)] {
+                for others in [Vec::new(), kept.clone()] {
+                    let mut strings = vec![others; MOST_ISSUERS];
+                    strings[issuer] = deciding(text, excluded);
+                    let what =
+                        format!("string of {} bytes, issuer {issuer}", strings[issuer].len());
+                    take((what, under(Chain::new(&strings))));
+                }
             }
         }
     }

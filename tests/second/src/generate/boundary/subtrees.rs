@@ -4,7 +4,7 @@
 use super::{base, excluded, labels_of, mixed, permitted, texts, Case, Taker};
 use crate::examples::{domain_of, LABEL};
 use crate::generate::flips::CASE_BIT;
-use crate::generate::words::deep_domain;
+use crate::generate::words::{deep_domain, joined};
 use crate::records::kind::{CN, DNS, URI};
 use crate::tree::*;
 
@@ -104,6 +104,22 @@ fn lengths(take: Taker) {
         for label in [1, 2, 252_usize.saturating_sub(length), 253 - length, 63, 64] {
             let subtree = [&vec![b'w'; label], b".".as_slice(), &domain].concat();
             restricted(take, &wildcard, &subtree);
+        }
+    }
+    for length in [3, 50, 100, 186, 187, 188, 189, 190] {
+        let domain = labels_of(length);
+        let wildcard = [b"*.", domain.as_slice()].concat();
+        for label in [1, 2, 31, 32, 61, 62, 63, 64] {
+            restricted(take, &wildcard, &joined(mixed(label), &domain));
+        }
+    }
+    for length in [249, 250, 251, 252] {
+        let domain = labels_of(length);
+        let wildcard = [b"*.", domain.as_slice()].concat();
+        for label in [b"x".as_slice(), b"X9", b"9", b"xyz"] {
+            restricted(take, &wildcard, &joined(label.to_vec(), &domain));
+            let capitals = domain.to_ascii_uppercase();
+            restricted(take, &wildcard, &joined(label.to_vec(), &capitals));
         }
     }
     for labels in [2, 3, 4, 8, 9, 16, 17, 63, 64, 65, 126, 127] {
