@@ -147,7 +147,8 @@ fn names(form: u8, count: usize, size: usize) -> Vec<Node> {
     (0..count).map(name).collect()
 }
 
-/// Subtrees of so many bytes; of SRVNames the domain alone, but for the shortest.
+/// Subtrees of so many bytes; the shortest of an SRVName is a domain alone, of one
+/// byte.
 fn subtrees(form: u8, count: usize, size: usize) -> Vec<Node> {
     let text = |number: usize| match size {
         4 => b"c".to_vec(),
@@ -177,10 +178,10 @@ fn fill(nodes: &mut Vec<Node>, room: usize) {
 
 fn pairs_heading() {
     println!(
-        "{:40}{:>14}{:>14}{:>8}{:>12}{:>8}{:>8}",
+        "{:48}{:>14}{:>14}{:>8}{:>12}{:>9}{:>8}",
         "", "archive", "this", "ratio", "pairs", "archive", "this"
     );
-    println!("{:90}{:>12}", "", "ns a pair");
+    println!("{:96}{:>17}", "", "ns a pair");
 }
 
 /// Measures a verdict under the same string from eight issuers.
@@ -206,7 +207,7 @@ fn constrained_line(what: &str, names: &[Node], string: Node, subtrees: usize) {
     let ratio = theirs / ours;
     let [their_pair, our_pair] = [theirs, ours].map(|time| time / pairs as f64);
     println!(
-        "{what:40}{theirs:14.1}{ours:14.1}{ratio:8.2}{pairs:12}{their_pair:8.2}{our_pair:8.2}"
+        "{what:48}{theirs:14.1}{ours:14.1}{ratio:8.2}{pairs:12}{their_pair:9.2}{our_pair:8.2}"
     );
 }
 
@@ -215,7 +216,7 @@ fn constrained_line(what: &str, names: &[Node], string: Node, subtrees: usize) {
 fn at_once() {
     println!("\nall numbers of a verdict through the archive, ns");
     println!(
-        "{:40}{:>14}{:>14}{:>8}",
+        "{:48}{:>14}{:>14}{:>8}",
         "", "eight calls", "one call", "ratio"
     );
     let plain = sample(40, 16, Hit::Last, Form::Dns);
@@ -244,7 +245,7 @@ fn at_once() {
         );
         assert_eq!(eight(), second::answer::MATCH, "{what}");
         let (eight, one) = best(eight, one);
-        println!("{what:40}{eight:14.1}{one:14.1}{:8.2}", eight / one);
+        println!("{what:48}{eight:14.1}{one:14.1}{:8.2}", eight / one);
     }
 }
 
@@ -448,7 +449,8 @@ fn certificate(entries: Vec<Node>, records: Vec<Vec<u8>>) -> Case {
     let case = Case {
         san: san(entries).write(),
         subject: subject(sets).write(),
-        constraints: Chain::default(),
+        // One issuer without constraints.
+        constraints: Chain::new([b""]),
         references: records.concat(),
     };
     assert!(
