@@ -131,7 +131,7 @@ fn sized_text(form: u8, size: usize, first: &str) -> Vec<u8> {
     let before: &[u8] = if form == SRV { b"_m." } else { b"" };
     let room = size - before.len();
     let domain = match room {
-        1 => first[..1].as_bytes().to_vec(),
+        1 => first.as_bytes()[..1].to_vec(),
         20 | 17 => {
             let label = &first[..room - 14];
             format!("{label}.kiosk.example").into_bytes()

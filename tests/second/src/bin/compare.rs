@@ -216,11 +216,12 @@ impl Exact {
 /// Listing and viewer take one string: one of several, and now and then all of
 /// them as one.
 fn one_string<'a>(chain: &'a Chain, random: &mut Random) -> &'a [u8] {
-    match chain.strings()[..] {
-        [] => &chain.bytes,
-        [only] => only,
+    let strings = chain.strings();
+    match strings.len() {
+        0 => &chain.bytes,
+        1 => strings[0],
         _ if random.one_in(8) => &chain.bytes,
-        ref several => *random.pick(several),
+        count => strings[random.below(count)],
     }
 }
 

@@ -287,10 +287,13 @@ fn wildcards() -> Vec<Example> {
     strings.map(line).into()
 }
 
-/// "lowest issuer first, then lowest name", of either form. The dNSName stands
-/// before the SRVName, and behind it.
+/// An example's number, strings, and the verdicts where the dNSName stands before
+/// the SRVName and where it stands behind it.
+type TwoOrders<'a> = (&'a str, &'a [&'a str], [u32; 6], [u32; 6]);
+
+/// "lowest issuer first, then lowest name", of either form.
 fn both_forms() -> Vec<Example> {
-    let strings: [(&str, &[&str], [u32; 6], [u32; 6]); 7] = [
+    let strings: [TwoOrders; 7] = [
         ("I57", &["+_n", "+c"], broken(1, 0), broken(0, 0)),
         ("I58", &["+_n +c"], broken(0, 0), broken(0, 0)),
         ("I59", &["+c", "+_n"], broken(0, 0), broken(1, 0)),
