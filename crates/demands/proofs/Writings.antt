@@ -9,14 +9,14 @@ use lib.ListN.{length, take, drop, length-append, length-drop, length-map}
 use lib.Seq.{take-append-seam, drop-append-seam, take-at, drop-at}
 use lib.Dec.{T, eqb, ltb}
 use borrow.Author.Tests.{eq-eqb, ne-eqb, eqb-true, eqb-false, le-ltb, ltb-true, ltb-false}
-use Rattle.rules.specs.Bytes.{some?, all, same, ascii, begins}
+use Rattle.rules.specs.Bytes.{some?, all, same, ascii, begins, cut, sum}
 use Rattle.rules.specs.Numbers.{recordSize}
 use Rattle.rules.specs.Names.{srvId}
 use Rattle.rules.specs.Records.{Reference, referenceOf, goodRecord, split, recordsOf, goodRecords, referencesOf}
 use Rattle.rules.specs.Der.{element, run}
 use Rattle.rules.specs.San.{goodName, goodValue, sealed, goodSrvName, sanGrammar}
 use Rattle.rules.specs.Seen.{listed, sanInput, Sees, seenRecords}
-use Rattle.rules.specs.Writing.{Request, cut, sum, agree, Writer, asked, goodList, resultOf, refusal, fitted, writtenBy, bufferBy, Identifier, identifiers, idOfKind, goodIdentifier, nameFor, sanWriter, references, recordFor, fieldsHold, goodToWrite, recordWriter}
+use Rattle.rules.specs.Writing.{Request, agree, Writer, asked, goodList, resultOf, refusal, fitted, writtenBy, bufferBy, Identifier, identifiers, idOfKind, goodIdentifier, nameFor, sanWriter, references, recordFor, fieldsHold, goodToWrite, recordWriter}
 use Rattle.rules.specs.declared.Written.{Written}
 use Rattle.rules.proofs.Cases.{by-cases, is-true, holds, and-left, and-right, clash}
 use Rattle.reading.specs.Views.{san-seen}

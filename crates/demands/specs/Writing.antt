@@ -6,12 +6,12 @@ use mathlib.Core.Logic.{_≢_}
 use mathlib.Core.List.{List, [], _∷_, _++_, map}
 use lib.ListN.{length, take, drop}
 use lib.Dec.{T}
-use Rattle.rules.specs.Bytes.{all}
+use Rattle.rules.specs.Bytes.{all, sum}
 use Rattle.rules.specs.Records.{Reference, goodRecords, referencesOf}
 use Rattle.rules.specs.Der.{run}
 use Rattle.rules.specs.San.{GeneralName}
 use Rattle.rules.specs.Seen.{Seen, listed, sanInput, Sees, seenRecords}
-use Rattle.rules.specs.Writing.{Request, request, sum, Writer, asked, resultOf, writtenBy, bufferBy, Identifier, goodIdentifier, nameFor, sanWriter, recordWriter}
+use Rattle.rules.specs.Writing.{Request, request, Writer, asked, resultOf, writtenBy, bufferBy, Identifier, goodIdentifier, nameFor, sanWriter, recordWriter}
 use Rattle.demands.specs.Statements.{Answer, when, EachExactly}
 
 -- ==== Every writer: "Refuse, in this order, .. each exactly then"

@@ -10,9 +10,10 @@ use lib.ListN.{length, take, drop, getD, set, drop-of-length-le}
 use lib.Seq.{drop-cons, take-suc-set, length-take-le}
 use lib.Dec.{leb, eqb}
 use borrow.Author.Tests.{le-leb, lt-leb, eq-eqb, ne-eqb, eqb-true, eqb-false, not-true, not-false}
+use Rattle.rules.specs.Bytes.{cut, sum}
 use Rattle.rules.proofs.Cases.{by-cases}
 use Rattle.rules.specs.Numbers.{mostIssuers}
-use Rattle.rules.specs.Seen.{sum, lengthsFit, cutBy, stringsOf, stringsBy, lengthsFromC}
+use Rattle.rules.specs.Seen.{lengthsFit, stringsOf, stringsBy, lengthsFromC}
 use Rattle.issuers.specs.Strings.{stringsIn, stringAt, startOf, sum-split, start-next, start-fits, fit-sum, cut-at, fit-cut, fit-count, wrong-none}
 use Rattle.issuers.specs.FromC.{pairs, from-even, from-odd, pairs-length}
 

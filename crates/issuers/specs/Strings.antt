@@ -9,8 +9,9 @@ use lib.ListN.{length, take, drop, getD, take-append-drop, length-take, length-d
 use lib.Seq.{drop-drop, take-suc}
 use lib.Dec.{leb, eqb}
 use borrow.Author.Tests.{eqb-true}
+use Rattle.rules.specs.Bytes.{cut, sum}
 use Rattle.rules.specs.Numbers.{mostIssuers}
-use Rattle.rules.specs.Seen.{sum, lengthsFit, cutBy, stringsOf}
+use Rattle.rules.specs.Seen.{lengthsFit, stringsOf}
 
 -- the strings; none where the lengths are wrong
 unfoldable pub stringsIn : List ℕ → List ℕ → List (List ℕ)
@@ -52,14 +53,14 @@ fit-sum lengths size e = eqb-true (sum lengths) size (and-eq-true-iff (leb (leng
 -- ---- the strings
 
 -- there are as many as there are lengths
-pub cut-length : (lengths bytes : List ℕ) → length (cutBy lengths bytes) ≡ length lengths
-unfolding cutBy
+pub cut-length : (lengths bytes : List ℕ) → length (cut lengths bytes) ≡ length lengths
+unfolding cut
 cut-length [] bytes = refl
 cut-length (n ∷ ns) bytes = ap suc (cut-length ns (drop n bytes))
 
 -- each is as long as its length says
-pub cut-sizes : (lengths bytes : List ℕ) → sum lengths ≡ length bytes → map length (cutBy lengths bytes) ≡ lengths
-unfolding cutBy sum
+pub cut-sizes : (lengths bytes : List ℕ) → sum lengths ≡ length bytes → map length (cut lengths bytes) ≡ lengths
+unfolding cut sum
 cut-sizes [] bytes e = refl
 cut-sizes (n ∷ ns) bytes e =
     let t : length (take n bytes) ≡ n = rw (length-take n bytes) (omega arith) in
@@ -68,19 +69,19 @@ cut-sizes (n ∷ ns) bytes e =
 
 -- string k, as a part of the bytes
 pub cut-at : (lengths bytes : List ℕ) (k : ℕ) → k < length lengths
-    → getD (cutBy lengths bytes) k [] ≡ take (getD lengths k 0) (drop (startOf lengths k) bytes)
-unfolding cutBy startOf sum
+    → getD (cut lengths bytes) k [] ≡ take (getD lengths k 0) (drop (startOf lengths k) bytes)
+unfolding cut startOf sum
 cut-at [] bytes k h = absurd (omega arith)
 cut-at (n ∷ ns) bytes zero h = refl
 cut-at (n ∷ ns) bytes (suc k) h = cut-at ns (drop n bytes) k (omega arith) ∙ ap (take (getD ns k 0)) (drop-drop (sum (take k ns)) n bytes)
 
 module _ (lengths bytes : List ℕ) where
   module _ (fit : lengthsFit lengths (length bytes) ≡ true) where
-    pub fit-strings : stringsOf lengths bytes ≡ some (cutBy lengths bytes)
+    pub fit-strings : stringsOf lengths bytes ≡ some (cut lengths bytes)
     unfolding stringsOf
     fit-strings = rw fit
 
-    pub fit-cut : stringsIn lengths bytes ≡ cutBy lengths bytes
+    pub fit-cut : stringsIn lengths bytes ≡ cut lengths bytes
     unfolding stringsIn
     fit-cut = rw fit-strings
 

@@ -8,8 +8,9 @@ use native.Mathlib.Omega.{arith}
 use lib.ListN.{length, getD, take, drop, drop-of-length-le}
 use lib.Seq.{drop-cons, drop-drop}
 use lib.Dec.{eqb}
+use Rattle.rules.specs.Bytes.{cut, sum}
 use Rattle.rules.specs.Records.{Reference, reference, goodReference}
-use Rattle.rules.specs.Writing.{request, cut, sum, asked, references, recordWriter, goodList}
+use Rattle.rules.specs.Writing.{request, asked, references, recordWriter, goodList}
 use Rattle.reading.specs.Written.{good-to-write}
 use Rattle.writing.proofs.Adding.{EndsAt, ends-begin, ends-within, ends-next}
 use Rattle.writing.proofs.Judging.{Judging, many-lengths, other-sum, sum-is, judge-begin, judge-bad, judge-next, judge-end}

@@ -6,11 +6,11 @@ use mathlib.Core.List.{List, [], _∷_, _++_}
 use native.Mathlib.Omega.{arith}
 use lib.ListN.{length, getD, take, drop}
 use borrow.Author.Tests.{not-false}
-use Rattle.rules.specs.Bytes.{all}
+use Rattle.rules.specs.Bytes.{all, cut}
 use Rattle.rules.specs.Numbers.{recordSize, recordsLimit, serviceSize, domainSize}
 use Rattle.rules.specs.Records.{Reference, reference}
 use Rattle.rules.specs.Der.{run}
-use Rattle.rules.specs.Writing.{request, cut, asked, references, recordFor, goodToWrite, recordWriter, goodList, resultOf, fitted}
+use Rattle.rules.specs.Writing.{request, asked, references, recordFor, goodToWrite, recordWriter, goodList, resultOf, fitted}
 use Rattle.rules.specs.declared.Written.{Written}
 use Rattle.rules.proofs.Cases.{and-left, and-right}
 use Rattle.reading.specs.Written.{texts-fit, is-good, run-length}

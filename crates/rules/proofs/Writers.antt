@@ -3,7 +3,7 @@ use Prim.Native.Nat.{ℕ, _+_, _-_}
 use mathlib.Core.Bool.{true}
 use mathlib.Core.List.{List, [], _∷_, _++_}
 use lib.ListN.{length, replicate}
-use Rattle.rules.specs.Bytes.{same, begins, before, after, ascii, part}
+use Rattle.rules.specs.Bytes.{sum, cut, same, begins, before, after, ascii, part}
 use Rattle.rules.specs.Names
 use Rattle.rules.specs.Records
 use Rattle.rules.specs.Der
@@ -119,9 +119,9 @@ recordValues =
     ∷ []
 
 pub san-values : All sanValues
-unfolding same begins before after ascii Names.letter Names.digit Names.letterDigitHyphen Names.ldh Names.label Names.longer Names.labels Names.lastOf Names.domain Names.twoLabels Names.wildcard Names.dnsId Names.service Names.serviceOf Names.domainOf Names.srvId Names.schemeByte Names.scheme Names.schemeOf Names.authorityEnd Names.authorityOf Names.hostAndPort Names.hostOf Names.portOf Names.uriId Der.lengthBytes Der.element Der.run San.tagOf San.contentOf San.writeName Writing.cut Writing.sum Writing.agree Writing.asked Writing.goodList Writing.resultOf Writing.fitted Writing.writtenBy Writing.bufferBy Writing.identifiers Writing.idOfKind Writing.goodIdentifier Writing.nameFor
+unfolding same begins before after ascii Names.letter Names.digit Names.letterDigitHyphen Names.ldh Names.label Names.longer Names.labels Names.lastOf Names.domain Names.twoLabels Names.wildcard Names.dnsId Names.service Names.serviceOf Names.domainOf Names.srvId Names.schemeByte Names.scheme Names.schemeOf Names.authorityEnd Names.authorityOf Names.hostAndPort Names.hostOf Names.portOf Names.uriId Der.lengthBytes Der.element Der.run San.tagOf San.contentOf San.writeName cut sum Writing.agree Writing.asked Writing.goodList Writing.resultOf Writing.fitted Writing.writtenBy Writing.bufferBy Writing.identifiers Writing.idOfKind Writing.goodIdentifier Writing.nameFor
 san-values = all-hold sanValues tt
 
 pub record-values : All recordValues
-unfolding same part Names.letter Names.digit Names.letterDigitHyphen Names.ldh Names.label Names.longer Names.labels Names.lastOf Names.domain Names.twoLabels Names.service Names.schemeByte Names.scheme Records.referenceOf Records.filled Records.goodService Records.goodReference Records.goodRecord Der.run Writing.cut Writing.sum Writing.agree Writing.asked Writing.goodList Writing.resultOf Writing.fitted Writing.writtenBy Writing.bufferBy Writing.references Writing.field Writing.recordFor Writing.fieldsHold Writing.goodToWrite
+unfolding same part Names.letter Names.digit Names.letterDigitHyphen Names.ldh Names.label Names.longer Names.labels Names.lastOf Names.domain Names.twoLabels Names.service Names.schemeByte Names.scheme Records.referenceOf Records.filled Records.goodService Records.goodReference Records.goodRecord Der.run cut sum Writing.agree Writing.asked Writing.goodList Writing.resultOf Writing.fitted Writing.writtenBy Writing.bufferBy Writing.references Writing.field Writing.recordFor Writing.fieldsHold Writing.goodToWrite
 record-values = all-hold recordValues tt

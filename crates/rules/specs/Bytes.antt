@@ -10,6 +10,15 @@ use lib.Dec.{eqb, ltb}
 unfoldable pub part : List ℕ → ℕ → ℕ → List ℕ
 part s start len = take len (drop start s)
 
+unfoldable pub sum : List ℕ → ℕ
+sum [] = 0
+sum (n ∷ lengths) = n + sum lengths
+
+-- texts that stand end to end, by their lengths
+unfoldable pub cut : List ℕ → List ℕ → List (List ℕ)
+cut [] texts = []
+cut (n ∷ lengths) texts = take n texts ∷ cut lengths (drop n texts)
+
 abbrev pub some? : {A : Type 0} → List A → Bool
 some? [] = false
 some? (a ∷ l) = true

@@ -7,8 +7,9 @@ use mathlib.Core.Bool.{Bool, true, false, cond, _&&_}
 use mathlib.Core.Logic.{_⊎_}
 use mathlib.Core.List.{List, [], _∷_}
 use mathlib.Core.Option.{Option, none, some}
-use lib.ListN.{length, take, drop}
+use lib.ListN.{length}
 use lib.Dec.{T, ltb, leb, eqb}
+use Rattle.rules.specs.Bytes.{sum, cut}
 use Rattle.rules.specs.Numbers.{sanLimit, subjectLimit, constraintsLimit, recordsLimit, mostIssuers}
 use Rattle.rules.specs.Records.{Reference, goodRecords, referencesOf}
 use Rattle.rules.specs.Der.{Member, Grammar, Writes}
@@ -52,21 +53,13 @@ Sees I bytes (listed list) = (length bytes ≤ I .limit) × Reads I bytes list
 
 -- ---- the constraint strings of all issuers
 
-unfoldable pub sum : List ℕ → ℕ
-sum [] = 0
-sum (n ∷ ns) = n + sum ns
-
 -- 6/13: "0 to 8 constraint strings"; "a ninth, or lengths with another sum, is 7"
 unfoldable pub lengthsFit : List ℕ → ℕ → Bool
 lengthsFit lengths size = leb (length lengths) mostIssuers && eqb (sum lengths) size
 
 -- 6/13: "end to end in one slice beside a slice of their lengths"
-unfoldable pub cutBy : List ℕ → List ℕ → List (List ℕ)
-cutBy [] bytes = []
-cutBy (n ∷ ns) bytes = take n bytes ∷ cutBy ns (drop n bytes)
-
 unfoldable pub stringsOf : List ℕ → List ℕ → Option (List (List ℕ))
-stringsOf lengths bytes = cond (lengthsFit lengths (length bytes)) (some (cutBy lengths bytes)) none
+stringsOf lengths bytes = cond (lengthsFit lengths (length bytes)) (some (cut lengths bytes)) none
 
 -- 6/13: "From C each length is two bytes, high first; an odd count is 7."
 abbrev pub lengthThen : ℕ → ℕ → Option (List ℕ) → Option (List ℕ)

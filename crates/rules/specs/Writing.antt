@@ -5,7 +5,7 @@ use mathlib.Core.Bool.{Bool, false, cond, _&&_}
 use mathlib.Core.List.{List, [], _∷_, _++_, map}
 use lib.ListN.{length, take, drop, replicate}
 use lib.Dec.{leb, ltb, eqb}
-use Rattle.rules.specs.Bytes.{some?, all, ascii}
+use Rattle.rules.specs.Bytes.{sum, cut, some?, all, ascii}
 use Rattle.rules.specs.Numbers.{accepted, emptyList, notAName, resultTooLong, bufferTooShort, sanLimit, recordsLimit, serviceSize, domainSize, dnsKind, srvKind, uriKind}
 use Rattle.rules.specs.Names.{dnsId, srvId, uriId}
 use Rattle.rules.specs.Records.{Reference, reference, goodRecord}
@@ -23,15 +23,6 @@ pub record Request : Type 0 where
 
 abbrev pub request : List ℕ → List ℕ → List ℕ → Request
 request kinds lengths texts = record { kinds = kinds; lengths = lengths; texts = texts }
-
--- the texts, by their lengths
-unfoldable pub cut : List ℕ → List ℕ → List (List ℕ)
-cut [] texts = []
-cut (n ∷ lengths) texts = take n texts ∷ cut lengths (drop n texts)
-
-unfoldable pub sum : List ℕ → ℕ
-sum [] = 0
-sum (n ∷ lengths) = n + sum lengths
 
 -- "lists that disagree" are those that don't do this: so many lengths for each kind, which add up to the texts
 unfoldable pub agree : ℕ → Request → Bool

@@ -9,9 +9,9 @@ use lib.ListN.{length, getD, take, drop, drop-of-length-le}
 use lib.Seq.{drop-cons, drop-drop}
 use lib.Dec.{eqb}
 use borrow.Author.Tests.{eq-eqb, ne-eqb, not-true, not-false}
-use Rattle.rules.specs.Bytes.{ascii}
+use Rattle.rules.specs.Bytes.{ascii, cut, sum}
 use Rattle.rules.specs.Names.{dnsId, srvId, uriId}
-use Rattle.rules.specs.Writing.{request, Identifier, identifier, identifiers, cut, idOfKind, goodIdentifier, sum, sanWriter, goodList, asked}
+use Rattle.rules.specs.Writing.{request, Identifier, identifier, identifiers, idOfKind, goodIdentifier, sanWriter, goodList, asked}
 use Rattle.writing.proofs.Adding.{EndsAt, ends-begin}
 use Rattle.writing.proofs.Judging.{Judging, many-lengths, other-sum, sum-is, judge-begin, judge-bad, judge-next, judge-end}
 

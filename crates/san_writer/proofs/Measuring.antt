@@ -8,10 +8,11 @@ use lib.ListN.{length, getD, drop, drop-of-length-le, length-append, length-drop
 use lib.Seq.{drop-cons, length-take-le}
 use lib.Dec.{eqb}
 use borrow.Author.Tests.{eq-eqb, ne-eqb, eqb-true, eqb-false}
+use Rattle.rules.specs.Bytes.{cut, sum}
 use Rattle.rules.specs.Numbers.{dnsKind, srvKind, sanLimit}
 use Rattle.rules.specs.Der.{lengthBytes, element, run}
 use Rattle.rules.specs.San.{other, srvOid, tagOf, contentOf, writeName}
-use Rattle.rules.specs.Writing.{cut, sum, identifier, identifiers, nameFor}
+use Rattle.rules.specs.Writing.{identifier, identifiers, nameFor}
 use Rattle.rules.proofs.Cases.{by-cases}
 use Rattle.output.specs.Output.{elementSize}
 use Rattle.output.proofs.Laws.{element-length}

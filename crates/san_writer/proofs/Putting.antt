@@ -6,10 +6,11 @@ use mathlib.Core.List.{List, _++_, map}
 use native.Mathlib.Omega.{arith}
 use lib.ListN.{length, getD, take, drop, length-append}
 use borrow.Author.Tests.{not-false}
+use Rattle.rules.specs.Bytes.{sum}
 use Rattle.rules.specs.Numbers.{sanLimit}
 use Rattle.rules.specs.Der.{element, run}
 use Rattle.rules.specs.San.{other, srvOid, tagOf, contentOf, writeName}
-use Rattle.rules.specs.Writing.{request, sum, asked, identifier, nameFor, sanWriter, goodList, resultOf, fitted}
+use Rattle.rules.specs.Writing.{request, asked, identifier, nameFor, sanWriter, goodList, resultOf, fitted}
 use Rattle.rules.specs.declared.Written.{Written}
 use Rattle.output.specs.Output.{Fits, Put, start, elementSize}
 use Rattle.output.proofs.Laws.{Left, left-begin, left-first, left-next, left-end, element-is, element-length}

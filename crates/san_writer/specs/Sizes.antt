@@ -5,10 +5,11 @@ use mathlib.Core.Bool.{cond}
 use mathlib.Core.List.{List, [], _∷_, map}
 use lib.ListN.{length}
 use lib.Dec.{eqb}
+use Rattle.rules.specs.Bytes.{cut, sum}
 use Rattle.rules.specs.Numbers.{srvKind, sanLimit}
 use Rattle.rules.specs.Der.{run}
 use Rattle.rules.specs.San.{writeName}
-use Rattle.rules.specs.Writing.{cut, sum, identifiers, nameFor}
+use Rattle.rules.specs.Writing.{identifiers, nameFor}
 use Rattle.output.specs.Output.{elementSize, Fits}
 
 -- a name of this kind whose text has n bytes; the OID's element has 10

@@ -9,10 +9,10 @@ use lib.ListN.{length}
 use lib.Dec.{T, ltb}
 use borrow.Author.Tests.{ltb-false}
 use Rattle.rules.proofs.Cases.{by-cases}
-use Rattle.rules.specs.Bytes.{all, any}
+use Rattle.rules.specs.Bytes.{all, any, cut}
 use Rattle.rules.specs.Numbers.{sanLimit, subjectLimit, constraintsLimit, recordsLimit}
 use Rattle.rules.specs.Records.{goodRecords, referencesOf}
-use Rattle.rules.specs.Seen.{Seen, together, lengthsFit, cutBy, stringsOf, stringsBy, seenRecords, sanInput, subjectInput, constraintsInput}
+use Rattle.rules.specs.Seen.{Seen, together, lengthsFit, stringsOf, stringsBy, seenRecords, sanInput, subjectInput, constraintsInput}
 use Rattle.rules.specs.Verdict.{isLong, isUnreadable, listOf, matchedOr, brokenOr, judged, outcomeOf}
 use Rattle.rules.specs.declared.Outcome.{Outcome}
 use Rattle.rules.specs.declared.Outcome.the-variants.{Refused, Broken, Matched, Mismatched}

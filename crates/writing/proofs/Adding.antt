@@ -9,7 +9,8 @@ use lib.ListN.{length, getD, drop, drop-of-length-le}
 use lib.Seq.{drop-cons}
 use lib.Dec.{eqb}
 use borrow.Author.Tests.{eq-eqb, ne-eqb, eqb-true, eqb-false}
-use Rattle.rules.specs.Writing.{sum}
+
+use Rattle.rules.specs.Bytes.{sum}
 use Rattle.rules.proofs.Cases.{by-cases, eqb-swap}
 
 -- ---- whether they add up to a total

@@ -6,8 +6,8 @@ use mathlib.Core.List.{List, [], _∷_}
 use lib.ListN.{length}
 use lib.Dec.{eqb}
 use borrow.Author.Tests.{eq-eqb, ne-eqb, eqb-true, not-true, not-false}
-use Rattle.rules.specs.Bytes.{all}
-use Rattle.rules.specs.Writing.{Request, Writer, sum, agree, asked, goodList}
+use Rattle.rules.specs.Bytes.{all, sum}
+use Rattle.rules.specs.Writing.{Request, Writer, agree, asked, goodList}
 use Rattle.rules.proofs.Cases.{and-left, and-right}
 
 module _ {Name : Type 0} (W : Writer Name) (q : Request) where
