@@ -182,7 +182,7 @@ fn long_constraints(title: &[u8], size: usize)
     put_header(&mut b, 0, 0x30, size - 4, 3);
     put_header(&mut b, 4, 0xA1, size - 8, 3);
     put_header(&mut b, 8, 0x30, size - 12, 3);
-    put_header(&mut b, 12, 0x82, size - 16, 3);
+    put_header(&mut b, 12, 0x86, size - 16, 3);
     part_in_four(title, &b, size, 2);
 }
 
@@ -256,7 +256,7 @@ fn entries() {
     in_four(b"a byte after the SAN", b"\x30\x02\x82\x00\x00", 0);
 }
 
-// Attributes of a set and of two, subtrees of both sides, and what stands out of order.
+// Attributes of a set and of two, subtrees of both sides, what stands out of order, and a restriction that is no domain.
 fn groups() {
     in_four(
         b"two sets",
@@ -276,6 +276,11 @@ fn groups() {
     in_four(
         b"sides out of order",
         b"\x30\x0C\xA1\x04\x30\x02\x82\x00\xA0\x04\x30\x02\x82\x00",
+        2,
+    );
+    in_four(
+        b"leading dot",
+        b"\x30\x08\xA0\x06\x30\x04\x82\x02\x2E\x62",
         2,
     );
 }

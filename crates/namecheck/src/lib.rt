@@ -1,14 +1,15 @@
 // The program of document 01: "reads san.der, subject.der, nc.der and refs.rec (a missing file is empty) and writes the verdict's
-// five numbers, then the SAN's rows if it is within its limit, readable and has at most 512, or `rows` and the count if more.
+// six numbers, then the SAN's rows if it is within its limit, readable and has at most 512, or `rows` and the count if more.
 // Decimals, single spaces, a line feed after each line." It fails closed: where a file is there and cannot be read, it writes no answer.
 use libc::STDERR_FILENO;
 use libc::STDOUT_FILENO;
 ghost use Prim.Native.Nat.{_+_, _≤_};
 ghost use mathlib.Core.Path.{_≡_};
+ghost use mathlib.Core.Option.{some};
 ghost use lib.ListN.{length};
 ghost use Rattle.io.specs.Counts.{Counts};
 ghost use Rattle.reading.specs.Calls.{inputs, verdictOn};
-ghost use Rattle.namecheck.specs.Status.{statusOf};
+ghost use Rattle.namecheck.specs.Status.{oneLength, statusOf};
 
 // "has at most 512"
 const MOST_ROWS: usize = 512;
@@ -113,7 +114,8 @@ fn show_verdict(v: rules::Verdict) {
     show_then(v.reference, b" ");
     show_then(v.presented, b" ");
     show_then(v.start, b" ");
-    show_then(v.length, b"\n");
+    show_then(v.length, b" ");
+    show_then(v.issuer, b"\n");
 }
 
 fn show_row(r: rules::Row) {
@@ -154,11 +156,23 @@ fn status(v: rules::Verdict) -> u32
     OTHERWISE
 }
 
+// The verdict, with the constraints as one string, or as none where they are empty.
+fn verdict_of(san: &[u8], subject: &[u8], constraints: &[u8], references: &[u8]) -> rules::Verdict
+    ensures { λ r. ⌜ r ≡ verdictOn (inputs (now (san .entry)) (now (subject .entry)) (now (constraints .entry)) (some (oneLength (now (constraints .entry)))) (now (references .entry))) ⌝ }
+{
+    let n = constraints.len();
+    let lengths = [n; 1];
+    if n == 0 {
+        return verdict::verdict(san, subject, constraints, &lengths[..0], references);
+    }
+    verdict::verdict(san, subject, constraints, &lengths[..1], references)
+}
+
 // Writes what is judged; the exit status is that of the verdict on these four strings.
 fn judge(san: &[u8], subject: &[u8], constraints: &[u8], references: &[u8]) -> u32
-    ensures { λ r. ⌜ r ≡ statusOf (verdictOn (inputs (now (san .entry)) (now (subject .entry)) (now (constraints .entry)) (now (references .entry)))) ⌝ }
+    ensures { λ r. ⌜ r ≡ statusOf (verdictOn (inputs (now (san .entry)) (now (subject .entry)) (now (constraints .entry)) (some (oneLength (now (constraints .entry)))) (now (references .entry)))) ⌝ }
 {
-    let v = verdict::verdict(san, subject, constraints, references);
+    let v = verdict_of(san, subject, constraints, references);
     show_verdict(v);
     show_rows(san);
     status(v)

@@ -5,6 +5,7 @@
 //   d domain     s service     h scheme     n DNS-ID     N reference, text: they match
 //   r SRV-ID     R service, domain, text: they match     u URI-ID     U scheme, domain, text: they match
 //   x restriction     X subtree, SRV-ID: the name lies in it     T text, text: they are the same without case
+//   y dNSName restriction     Y subtree, DNS-ID: the name lies in it     Z subtree, DNS-ID: the name breaks it where it is excluded
 // The line is written back behind 1 where the rule holds and 0 where it does not.
 //
 // The stored output is held, line by line, to what the second program says of the same vectors and records
@@ -26,6 +27,25 @@ fn past_word(s: &[u8]) -> &[u8] {
     &s[i..]
 }
 
+// Whether an SRV-ID lies in the subtree; a text that is none does not.
+fn srv_within(subtree: &[u8], name: &[u8]) -> bool {
+    let id = srv::srv_id(name);
+    if id {
+        let first = octets::find(name, b'.');
+        return srv::in_subtree(subtree, name, first);
+    }
+    false
+}
+
+// Whether a DNS-ID breaks the subtree where it is excluded; a text that is none does not.
+fn dns_breaks(subtree: &[u8], name: &[u8]) -> bool {
+    let id = dns::dns_id(name);
+    if id {
+        return dns::dns_reaches(subtree, name);
+    }
+    false
+}
+
 fn holds(rule: u8, s: &[u8]) -> bool {
     let rest = past_word(s);
     match rule {
@@ -39,7 +59,10 @@ fn holds(rule: u8, s: &[u8]) -> bool {
         b'u' => uri::uri_id(s),
         b'U' => uri::uri_matches(word(s), word(rest), past_word(rest)),
         b'x' => srv::restriction(s),
-        b'X' => srv::in_subtree(word(s), rest),
+        b'X' => srv_within(word(s), rest),
+        b'y' => dns::dns_restriction(s),
+        b'Y' => dns::dns_within(word(s), rest),
+        b'Z' => dns_breaks(word(s), rest),
         b'T' => octets::same_text(word(s), rest),
         _ => false,
     }

@@ -1,4 +1,4 @@
-// Asks for the witness of fixed certificates: for each a line with the verdict's five numbers, where the witness's text starts in its
+// Asks for the witness of fixed certificates: for each a line with the verdict's six numbers, where the witness's text starts in its
 // string and how long it is, and the text itself, as it was handed back. The references are DNS, SRV, URI and CN, all for `a.b.c`,
 // with the service or scheme `m`. The stored output is held, line by line, to the second program's (tests/second/tests/stored.rs).
 use libc::STDOUT_FILENO;
@@ -37,6 +37,7 @@ fn write_verdict(v: rules::Verdict) {
     write_number(b" ", v.presented);
     write_number(b" ", v.start);
     write_number(b" ", v.length);
+    write_number(b" ", v.issuer);
 }
 
 fn references() -> [u8; REFERENCES] {
@@ -53,23 +54,40 @@ fn show_on<'a>(
     san: &'a [u8],
     subject: &'a [u8],
     constraints: &[u8],
+    lengths: &[usize],
     records: &[u8; REFERENCES],
 ) {
     let all = &records[..];
     io::write_all(STDOUT_FILENO, title);
-    write_verdict(verdict::verdict(san, subject, constraints, all));
-    let place = verdict::text_place(san, subject, constraints, all);
+    write_verdict(verdict::verdict(san, subject, constraints, lengths, all));
+    let place = verdict::text_place(san, subject, constraints, lengths, all);
     write_number(b"; ", place.start);
     write_number(b" ", place.length);
-    let text = verdict::witness(san, subject, constraints, all);
+    let text = verdict::witness(san, subject, constraints, lengths, all);
     io::write_all(STDOUT_FILENO, b"; \"");
     io::write_all(STDOUT_FILENO, text);
     io::write_all(STDOUT_FILENO, b"\"\n");
 }
 
-fn show<'a>(title: &[u8], san: &'a [u8], subject: &'a [u8], constraints: &[u8]) {
+fn show_under<'a>(
+    title: &[u8],
+    san: &'a [u8],
+    subject: &'a [u8],
+    constraints: &[u8],
+    lengths: &[usize],
+) {
     let records = references();
-    show_on(title, san, subject, constraints, &records);
+    show_on(title, san, subject, constraints, lengths, &records);
+}
+
+// The constraints of one issuer.
+fn show<'a>(title: &[u8], san: &'a [u8], subject: &'a [u8], constraints: &[u8]) {
+    let lengths = [constraints.len(); 1];
+    if constraints.len() == 0 {
+        show_under(title, san, subject, constraints, &lengths[..0]);
+        return;
+    }
+    show_under(title, san, subject, constraints, &lengths);
 }
 
 // Matches in the SAN.
@@ -114,8 +132,28 @@ fn nowhere() {
     );
 }
 
+// The dNSName `a.b.c` where the first issuer permits `c` and the second excludes `d`; and where the first permits `c`, the second has no
+// constraints and the third permits `d`.
+fn issuers() {
+    show_under(
+        b"two issuers",
+        b"\x30\x07\x82\x05a.b.c",
+        &SUBJECT,
+        b"\x30\x07\xA0\x05\x30\x03\x82\x01c\x30\x07\xA1\x05\x30\x03\x82\x01d",
+        &[9, 9],
+    );
+    show_under(
+        b"third issuer's constraints broken",
+        b"\x30\x07\x82\x05a.b.c",
+        &SUBJECT,
+        b"\x30\x07\xA0\x05\x30\x03\x82\x01c\x30\x07\xA0\x05\x30\x03\x82\x01d",
+        &[9, 0, 9],
+    );
+}
+
 fn main() {
     in_san();
     in_subject();
     nowhere();
+    issuers();
 }
