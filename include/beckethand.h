@@ -1,8 +1,9 @@
 /* beckethand: does a certificate name the server that we mean?
  *
- * A TLS library that has checked a certificate's signatures and dates asks here, before anything is sent, whether the certificate's
- * names match the names that the caller expects (RFC 6125), and whether its SRVNames and dNSNames keep to the name constraints of
- * every CA above it (RFC 4985, RFC 5280). Both are narrowed by rules of our own, which docs/RULES.md says whole.
+ * A TLS library that has checked a certificate's signatures, dates and name constraints of all other forms asks here, before anything
+ * is sent, whether the certificate's names match the names that the caller expects (RFC 6125), and whether its SRVNames and dNSNames
+ * keep to the name constraints of every CA above it (RFC 4985, RFC 5280). Both are narrowed by rules of our own, which docs/RULES.md
+ * says whole.
  *
  * INPUTS. Five byte strings, each a pointer and a length; a pointer may be NULL where the length is 0. Nothing has to be checked
  * first: every call answers for any bytes at all, reads nothing outside them, allocates nothing and keeps nothing. The five may
@@ -19,15 +20,15 @@
  *
  * Longest inputs in bytes: san 16,384; subject 4,096; each of the constraints 16,384; references 5,120.
  *
- * So constraints and lengths are laid down, from values[0] to values[n - 1], n at most BECKETHAND_MOST_ISSUERS:
+ * So constraints and lengths are laid down, from values[0] to values[n - 1]:
  *
  *   uint8_t constraints[BECKETHAND_MOST_ISSUERS * BECKETHAND_CONSTRAINTS_LIMIT], lengths[2 * BECKETHAND_MOST_ISSUERS];
  *   size_t end = 0;
  *   for (size_t k = 0; k < n; k++) {
- *       if (values[k].size > BECKETHAND_CONSTRAINTS_LIMIT)
+ *       if (k == BECKETHAND_MOST_ISSUERS || values[k].size > BECKETHAND_CONSTRAINTS_LIMIT)
  *           return BECKETHAND_INPUT_TOO_LONG;
- *       memcpy(constraints + end, values[k].bytes, values[k].size);
- *       end += values[k].size;
+ *       for (size_t i = 0; i < values[k].size; i++)
+ *           constraints[end++] = values[k].bytes[i];
  *       lengths[2 * k] = (uint8_t)(values[k].size >> 8);
  *       lengths[2 * k + 1] = (uint8_t)values[k].size;
  *   }
@@ -78,12 +79,12 @@
  * WILDCARDS. A dNSName or a CN may begin with "*.", which stands for one whole label, and then has two labels or more behind it:
  * "*.branch.example" matches a reference "desk.branch.example", and "*.example" matches none.
  *
- * CONSTRAINTS. Where a CA's constraints have a subtree of the form dNSName, each dNSName must be a name as it could match, must lie in
- * none of the excluded ones and, if any is permitted, in one of the permitted ones; and the same of SRVNames. A dNSName lies in a
- * subtree if the subtree's labels are its last labels, in either case of letters; an empty subtree holds every name. The star of a
- * wildcard is a label like others here: "*.a.b" lies in "a.b" and in "b", and not in "x.a.b". But it could stand for x, so it also
- * breaks an excluded "x.a.b", or any other excluded subtree of one label and then "a.b"; it does not break an excluded "y.x.a.b". The
- * subject's CN and URIs are not constrained.
+ * CONSTRAINTS. Where a CA's constraints have any dNSName subtree, each dNSName must be a domain, or a wildcard as above, must break no
+ * excluded subtree and, if any is permitted, must lie in one of these; and the same of SRVNames. A dNSName lies in a subtree, and breaks
+ * it if it is excluded, where the subtree's labels are its last labels, in either case of letters; an empty subtree holds every name. The
+ * star of a wildcard is a label like others here: "*.a.b" lies in "a.b" and in "b", and not in "x.a.b". But it could stand for x, so it
+ * also breaks an excluded "x.a.b", or any other excluded subtree of one label and then "a.b"; it does not break an excluded "y.x.a.b".
+ * The subject's CN and URIs are not constrained. Subtrees of other forms are read and passed over.
  *
  * ADDRESSES. A domain whose last label is all digits, as in "10.4.0.7", is none: such a dNSName, SRVName, URI or CN matches nothing,
  * and such an SRVName or dNSName breaks any constraints of its form (2). Other labels are not judged so: "4.example" and "a.7b" are
