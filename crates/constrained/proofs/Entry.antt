@@ -1,13 +1,12 @@
 -- Whether an entry of a SAN breaks a string, and the first entry that does, one entry at a time.
 use Prim.Native.Nat.{ℕ, suc, _+_, _-_, _≤_, _<_}
 use mathlib.Core.Path.{_≡_, refl, sym, ap, _∙_}
-use mathlib.Core.Bool.{Bool, true, false, cond, not, _||_}
+use mathlib.Core.Bool.{Bool, true, false, cond, not}
 use mathlib.Core.Option.{Option, none, some}
-use mathlib.Core.List.{List, [], _∷_}
+use mathlib.Core.List.{List}
 use native.Mathlib.Omega.{arith}
 use native.Mathlib.Numerals.{add-one}
 use lib.ListN.{length, take, drop}
-use lib.Seq.{slice}
 use borrow.Author.Tests.{not-true, not-false}
 use Rattle.rules.specs.Der.{Member}
 use Rattle.rules.specs.San.{GeneralName}

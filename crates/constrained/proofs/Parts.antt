@@ -1,18 +1,17 @@
 -- A part of the constraints, one subtree at a time.
 use Prim.Native.Nat.{ℕ, _≤_, _<_}
-use mathlib.Core.Path.{_≡_, refl, sym, _∙_}
+use mathlib.Core.Path.{_≡_, refl}
 use mathlib.Core.Bool.{Bool, true, false, cond, _||_}
 use mathlib.Core.Option.{Option, none, some}
 use mathlib.Core.List.{List, [], _∷_}
 use native.Mathlib.Omega.{arith}
 use borrow.Author.Tests.{lt-ltb, le-ltb}
-use Rattle.rules.specs.Bytes.{some?}
 use Rattle.rules.specs.San.{GeneralName}
 use Rattle.rules.specs.Matching.{withSome, if-some, Form}
 use Rattle.reading.specs.Strings.{readSubtree}
 use Rattle.der.specs.Places.{elementAt}
 use Rattle.der.specs.Runs.{Run, itemsIn, startOf, endOf, no-items}
-use Rattle.entries.specs.Entries.{formOf, wholeAt, textPlace}
+use Rattle.entries.specs.Entries.{formOf, textPlace}
 use Rattle.constrained.specs.Subtrees.{meeting, meetsAt, meetsAny, textsOf, textsIn, Narrowed}
 use Rattle.constrained.proofs.Step.{step-fits, with-subtree}
 use Rattle.constrained.proofs.Texts.{text-there, text-not-there}

@@ -14,7 +14,7 @@ use Rattle.rules.specs.Matching.{Form, subtreesOf, allowed}
 use Rattle.reading.specs.Strings.{readSubtree, readConstraints}
 use Rattle.der.specs.Runs.{Run, namesOf}
 use Rattle.entries.specs.Entries.{formOf}
-use Rattle.constrained.specs.Subtrees.{meeting, meetsAny, textsIn, Narrowed, Side, BothSides, FormSide, FormSides, restricting}
+use Rattle.constrained.specs.Subtrees.{meeting, meetsAny, textsIn, Narrowed, BothSides, FormSides, restricting}
 use Rattle.constrained.specs.declared.Sides.{Sides}
 
 -- ---- the sides from their first subtrees of the form on

@@ -1,7 +1,7 @@
 -- The text of a name of one form, at the place that the code finds.
-use Prim.Native.Nat.{ℕ, suc, _+_, _-_, _≤_, _<_}
-use mathlib.Core.Path.{_≡_, refl, sym, ap, _∙_}
-use mathlib.Core.Bool.{Bool, true, false, cond}
+use Prim.Native.Nat.{ℕ, _+_, _-_, _≤_, _<_}
+use mathlib.Core.Path.{_≡_, refl, ap, _∙_}
+use mathlib.Core.Bool.{Bool, true, false}
 use mathlib.Core.Option.{Option, none, some}
 use mathlib.Core.List.{List}
 use native.Mathlib.Omega.{arith}
@@ -12,10 +12,9 @@ use borrow.Author.Tests.{eq-eqb, ne-eqb}
 use Rattle.octets.proofs.Cases.{by-cases}
 use Rattle.rules.specs.Bytes.{same}
 use Rattle.rules.specs.Names.{dnsId, dnsWithin, dnsReaches, srvId, inSubtree}
-use Rattle.rules.specs.San.{GeneralName, plain, other, srvOid, tagOf, contentOf, writeName}
-use Rattle.rules.specs.Matching.{taggedText, srvText, Form}
-use Rattle.reading.specs.Reader.{then, isSome}
-use Rattle.reading.specs.Strings.{readName}
+use Rattle.rules.specs.San.{GeneralName, plain, other, srvOid, tagOf}
+use Rattle.rules.specs.Matching.{taggedText, srvText}
+use Rattle.reading.specs.Reader.{isSome}
 use Rattle.reading.specs.Answers.{no-some, some-of}
 use Rattle.reading.specs.Codec.{aloneC}
 use Rattle.reading.specs.Codecs.{nameC}

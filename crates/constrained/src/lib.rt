@@ -14,7 +14,7 @@ ghost use mathlib.Core.List.{map};
 ghost use lib.ListN.{length};
 ghost use Rattle.rules.specs.Bytes.{all, before};
 ghost use Rattle.rules.specs.Names.{is, dot};
-ghost use Rattle.rules.specs.Matching.{breaksAs, firstBroken, firstBreach};
+ghost use Rattle.rules.specs.Matching.{firstBroken, firstBreach};
 ghost use Rattle.rules.specs.Matching as rules;
 ghost use Rattle.rules.specs.declared.Breach.{Breach};
 ghost use Rattle.reading.specs.Reader.{isSome};
@@ -124,6 +124,16 @@ fn meets_any(
         at = next;
     }
     false
+}
+
+// The same of a side.
+fn meets_side(s: &[u8], side: Part, kind: usize, excluded: bool, name: &[u8], first: usize) -> bool
+    requires { ⌜ Run readSubtree (now s) (side .start) (side .end) ⌝ }
+    requires { ⌜ formOf kind .id (now name) ≡ true ⌝ }
+    requires { ⌜ (first ≡ length (before (is dot) (now name))) × (first ≤ length (now name)) ⌝ }
+    ensures { λ r. ⌜ r ≡ meetsAny kind excluded (textsIn (formOf kind) (now (s .entry)) (side .start) (side .end)) (now (name .entry)) ⌝ }
+{
+    meets_any(s, side.start, side.end, kind, excluded, name, first)
 }
 
 // Where the first subtree of the form stands in a part; where the part ends, if it has none.
@@ -268,29 +278,13 @@ fn allowed(constraints: &[u8], sides: Sides, kind: usize, text: &[u8]) -> bool
     if id {
         let first = octets::find(text, 0x2E);
         let excluded = sides.excluded;
-        let outside = meets_any(
-            constraints,
-            excluded.start,
-            excluded.end,
-            kind,
-            true,
-            text,
-            first,
-        );
+        let outside = meets_side(constraints, excluded, kind, true, text, first);
         if outside {
             return false;
         }
         let permitted = sides.permitted;
         if permitted.start < permitted.end {
-            return meets_any(
-                constraints,
-                permitted.start,
-                permitted.end,
-                kind,
-                false,
-                text,
-                first,
-            );
+            return meets_side(constraints, permitted, kind, false, text, first);
         }
         return true;
     }

@@ -1,19 +1,19 @@
 -- What the element reader returns, by its own tests.
 use Prim.Native.Nat.{ℕ, suc, _+_, _-_, _*_, _%_, _≤_, _<_}
 use mathlib.Core.Path.{_≡_, refl, sym, ap, _∙_}
-use mathlib.Core.Bool.{Bool, true, false, cond, _&&_, true≢false}
-use mathlib.Core.Logic.{_⊎_, inl, inr}
+use mathlib.Core.Bool.{Bool, true, false, true≢false}
+use mathlib.Core.Logic.{inl, inr}
 use mathlib.Core.List.{List, [], _∷_}
 use native.Mathlib.Omega.{arith}
 use native.Mathlib.Numerals.{add-one, add-two, add-three, add-four}
-use lib.ListN.{length, getD, take, drop, length-drop}
+use lib.ListN.{length, getD, length-drop}
 use lib.Seq.{slice, slice-cons, length-slice, length-take-le}
 use lib.Dec.{ltb, leb, eqb}
 use borrow.Author.Tests.{lt-ltb, le-ltb, le-leb, lt-leb, ltb-true, ltb-false, leb-true, leb-false, eq-eqb, ne-eqb}
 use Rattle.octets.proofs.Cases.{by-cases}
 use denote.Enum.Declared
 use types.Run
-use Rattle.reading.specs.Reader.{Front, got, refused, truncated, badLength, long1, long2, readLength, Raw, raw, contentAfter, readElement}
+use Rattle.reading.specs.Reader.{refused, truncated, long1, long2, readLength, contentAfter, readElement}
 use Rattle.der.specs.Places.{placeElement, elementAt, placedAt, tagFits, taggedAt, valueAt, found?}
 use Rattle.der.specs.Runs.{startOf, endOf}
 use Rattle.der.specs.declared.Element.{Element}

@@ -1,16 +1,15 @@
 -- dNSName subtrees, by the tests that the code makes.
-use Prim.Native.Nat.{ℕ, suc, _-_}
+use Prim.Native.Nat.{ℕ, _-_}
 use mathlib.Core.Path.{_≡_, refl, sym, ap, _∙_}
 use mathlib.Core.List.{List, [], _∷_}
-use mathlib.Core.Bool.{Bool, true, false, _&&_, _||_, and-false}
+use mathlib.Core.Bool.{Bool, true, false, and-false}
 use native.Mathlib.Omega.{arith}
 use lib.ListN.{length, take, drop}
-use lib.Dec.{leb}
 use Rattle.octets.proofs.Cases.{by-cases}
 use Rattle.octets.proofs.Parts.{rest-is}
 use Rattle.names.proofs.Labels.{others, labels-are, same-domain}
 use Rattle.rules.specs.Bytes.{any, after}
-use Rattle.rules.specs.Names.{is, star, dot, domain, labels, sameText, sameLabels, sameDomain, domainWithin, wildcard, dnsId, dnsRestriction, subtreeLabels, dnsWithin, oneLabelThen, dnsReaches, lastLabels}
+use Rattle.rules.specs.Names.{is, dot, domain, labels, sameLabels, sameDomain, domainWithin, wildcard, dnsId, dnsRestriction, subtreeLabels, dnsWithin, oneLabelThen, dnsReaches, lastLabels}
 use Rattle.dns.specs.Wildcard.{pastFirst}
 use Rattle.dns.proofs.Matching.{wild, wild-is, star-first}
 

@@ -2,32 +2,31 @@
 use Prim.Native.Nat.{ℕ, suc, _+_, _-_, _≤_, _<_}
 use mathlib.Core.Path.{_≡_, refl, sym, ap, _∙_}
 use mathlib.Core.Bool.{Bool, true, false, cond, _&&_}
-use mathlib.Core.Option.{Option, none, some}
+use mathlib.Core.Option.{none, some}
 use mathlib.Core.List.{List, [], _∷_, _++_, append-nil}
 use native.Mathlib.Omega.{arith}
 use native.Mathlib.Numerals.{add-one, add-two, add-three, add-four}
 use lib.ListN.{length, getD, take, length-append}
 use lib.Seq.{slice, slice-cons, length-slice, take-at}
-use lib.Dec.{T, eqb, ltb}
-use borrow.Author.Tests.{eq-eqb, ne-eqb, eqb-true, lt-ltb, ltb-true}
-use Rattle.octets.proofs.Cases.{by-cases, clash}
+use lib.Dec.{T, ltb}
+use borrow.Author.Tests.{eq-eqb, ne-eqb, lt-ltb, ltb-true}
+use Rattle.octets.proofs.Cases.{by-cases}
 use Rattle.octets.proofs.Compare.{same-lengths, same-equal}
 use Rattle.rules.specs.Bytes.{same}
 use Rattle.rules.specs.Der.{lengthBytes, element, header}
 use Rattle.rules.specs.San.{GeneralName, plain, other, srvOid, tagOf, contentOf, writeName, goodOid, goodValue, goodName, nameKind}
 use Rattle.rules.specs.Matching.{taggedText, srvText, Form, srvForm, dnsForm}
-use Rattle.reading.specs.Reader.{then, isSome, got, Raw, raw, writeRaw, readElement, alone}
-use Rattle.reading.specs.Strings.{readOther, readName}
+use Rattle.reading.specs.Reader.{isSome, got, raw, readElement}
+use Rattle.reading.specs.Strings.{readOther}
 use Rattle.reading.specs.Answers.{some-of, and-parts}
 use Rattle.reading.specs.Element.{element-length, element-complete}
 use Rattle.reading.specs.Codec.{aloneC}
 use Rattle.reading.specs.Codecs.{otherC, nameC}
 use Rattle.der.specs.Places.{placeElement, elementAt, found?}
-use Rattle.der.specs.Reads.{Read, found-read, part-of-part}
+use Rattle.der.specs.Reads.{found-read, part-of-part}
 use Rattle.der.specs.Runs.{startOf}
-use Rattle.der.specs.declared.Element.{Element}
 use Rattle.der.specs.declared.Element.the-variants.{Found}
-use Rattle.entries.specs.Entries.{srvOidAt, textTagOf, textOf, placeName, otherOf, otherAt, formOf, wholeAt, placeText, textPlace}
+use Rattle.entries.specs.Entries.{srvOidAt, textTagOf, textOf, placeName, otherAt, formOf, wholeAt, placeText, textPlace}
 use Rattle.entries.specs.declared.Name.{Name}
 use Rattle.entries.specs.declared.Name.the-variants.{Is, Malformed}
 

@@ -1,16 +1,16 @@
 -- The laws that the functions' proofs search: one for each return and each loop step.
 use Prim.Native.Nat.{ℕ, zero, suc, _+_, _-_, _*_, _/_, _%_, _<_, _≤_}
 use mathlib.Core.Path.{_≡_, refl, sym, ap, _∙_}
-use mathlib.Core.Bool.{Bool, true, false, cond, not, _&&_}
+use mathlib.Core.Bool.{Bool, true, false, not}
 use mathlib.Core.List.{List, [], _∷_, _++_, append-assoc, append-nil}
-use mathlib.Core.Option.{none, some}
+use mathlib.Core.Option.{none}
 use native.Mathlib.Omega.{arith}
 use native.Mathlib.Numerals.{add-one}
 use lib.ListN.{length, take, drop, getD, set, drop-of-length-le}
-use lib.Seq.{drop-cons, take-suc-set, length-take-le}
-use lib.Dec.{leb, eqb}
+use lib.Seq.{drop-cons, take-suc-set}
+use lib.Dec.{eqb}
 use borrow.Author.Tests.{le-leb, lt-leb, eq-eqb, ne-eqb, eqb-true, eqb-false, not-true, not-false}
-use Rattle.rules.specs.Bytes.{cut, sum}
+use Rattle.rules.specs.Bytes.{sum}
 use Rattle.rules.proofs.Cases.{by-cases}
 use Rattle.rules.specs.Numbers.{mostIssuers}
 use Rattle.rules.specs.Seen.{lengthsFit, stringsOf, stringsBy, lengthsFromC}
@@ -19,40 +19,14 @@ use Rattle.issuers.specs.FromC.{pairs, from-even, from-odd, pairs-length
 
 -- ---- lengths_fit
 
--- what is left of the size, past the lengths before i
-unfoldable pub FitLeft : List ℕ → ℕ → ℕ → ℕ → Type 0
-FitLeft lengths size i left = startOf lengths i + left ≡ size
-
 module _ (lengths : List ℕ) (size : ℕ) where
   pub fit-many : mostIssuers < length lengths → false ≡ lengthsFit lengths size
   unfolding lengthsFit
   fit-many h = rw (lt-leb (length lengths) mostIssuers h)
 
-  pub fit-begin : FitLeft lengths size 0 size
-  unfolding FitLeft startOf sum
-  fit-begin = omega arith
-
-  module _ (i left : ℕ) (inv : FitLeft lengths size i left) where
-    pub fit-next : i < length lengths → (n : ℕ) → n ≡ getD lengths i 0 → n ≤ left → FitLeft lengths size (i + 1) (left - n)
-    unfolding FitLeft
-    fit-next h n e k = rw add-one (omega (arith, start-next lengths i h))
-
-    module _ (few : length lengths ≤ mostIssuers) where
-      fit-is : lengthsFit lengths size ≡ eqb (sum lengths) size
-      unfolding lengthsFit
-      fit-is = rw (le-leb (length lengths) mostIssuers few)
-
-      pub fit-short : i < length lengths → left < getD lengths i 0 → false ≡ lengthsFit lengths size
-      unfolding FitLeft
-      fit-short h k = sym (fit-is ∙ ne-eqb (sum lengths) size (λ e. omega (arith, start-fits lengths i h)))
-
-      pub fit-end : length lengths ≤ i → eqb left 0 ≡ lengthsFit lengths size
-      unfolding FitLeft sum
-      fit-end h =
-          let whole : sum lengths ≡ startOf lengths i + 0 = sum-split lengths i ∙ rw (drop-of-length-le lengths {i = i} h) in
-          by-cases (eqb left 0)
-          (λ e. e ∙ sym (fit-is ∙ eq-eqb (sum lengths) size (omega (arith, eqb-true left 0 e))))
-          (λ e. e ∙ sym (fit-is ∙ ne-eqb (sum lengths) size (λ f. eqb-false left 0 e (omega arith))))
+  pub fit-few : length lengths ≤ mostIssuers → (r : Bool) → r ≡ eqb (sum lengths) size → r ≡ lengthsFit lengths size
+  unfolding lengthsFit
+  fit-few h r e = e ∙ rw (le-leb (length lengths) mostIssuers h)
 
 -- ---- start_of
 
@@ -161,10 +135,7 @@ module _ (b : List ℕ) where
 
 pub ruleset laws = (
   fit-many,
-  fit-begin,
-  fit-next,
-  fit-short,
-  fit-end,
+  fit-few,
   start-begin,
   start-step,
   start-bound,

@@ -1,11 +1,11 @@
 -- Lengths from C: two bytes each, high first.
 use Prim.Native.Nat.{ℕ, _+_, _*_, _/_, _%_}
-use mathlib.Core.Path.{_≡_, refl, ap}
+use mathlib.Core.Path.{_≡_, refl}
 use mathlib.Core.List.{List, [], _∷_}
-use mathlib.Core.Option.{Option, none, some}
+use mathlib.Core.Option.{none, some}
 use native.Mathlib.Omega.{arith}
 use lib.ListN.{length}
-use Rattle.rules.specs.Seen.{lengthThen, lengthsFromC}
+use Rattle.rules.specs.Seen.{lengthsFromC}
 
 -- each two bytes; an odd one at the end is left out
 unfoldable pub pairs : List ℕ → List ℕ

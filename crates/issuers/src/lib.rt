@@ -1,4 +1,5 @@
 // The constraint strings of all issuers, end to end in one slice beside their lengths: whether the lengths fit, and each string.
+use octets::sums_to;
 use octets::wide;
 use rules::MOST_ISSUERS;
 ghost use Prim.Native.Nat.{ℕ, _≤_, _*_};
@@ -10,24 +11,14 @@ ghost use Rattle.rules.specs.Seen.{lengthsFit, stringsOf, stringsBy, lengthsFro
 ghost use Rattle.issuers.specs.Strings.{startOf, stringAt};
 ghost use Rattle.issuers.specs.FromC.{pairs};
 
-// "a ninth, or lengths with another sum, is 7": each length is taken from what is left of the size, so no sum wraps.
+// "a ninth, or lengths with another sum, is 7".
 pub fn lengths_fit(lengths: &[usize], size: usize) -> bool
     ensures { λ r. ⌜ r ≡ lengthsFit (now (lengths .entry)) size ⌝ }
 {
     if MOST_ISSUERS < lengths.len() {
         return false;
     }
-    let mut left = size;
-    let mut i = 0;
-    while i < lengths.len() {
-        let n = lengths[i];
-        if left < n {
-            return false;
-        }
-        left -= n;
-        i += 1;
-    }
-    left == 0
+    sums_to(lengths, size)
 }
 
 // Where string k starts.

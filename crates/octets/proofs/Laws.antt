@@ -14,6 +14,7 @@ use Rattle.octets.proofs.Compare
 use Rattle.octets.proofs.Cut
 use Rattle.octets.proofs.Every
 use Rattle.octets.proofs.Parts
+use Rattle.octets.proofs.Adding
 
 -- ---- find, by the comparison that it makes
 
@@ -119,4 +120,8 @@ pub ruleset laws = (
   ascii-next,
   ascii-end,
   Parts.rest-is,
+  Adding.adds-begin,
+  Adding.adds-next,
+  Adding.adds-fail,
+  Adding.adds-end,
 )

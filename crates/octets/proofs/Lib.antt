@@ -5,4 +5,5 @@ pub mod Every
 pub mod Cut
 pub mod Compare
 pub mod Place
+pub mod Adding
 mod Laws

@@ -1,4 +1,4 @@
-// Bytes of a text: the classes of bytes, the comparison of texts with and without case, and the place of a byte.
+// Bytes of a text: the classes of bytes, the comparison of texts with and without case, and the place of a byte; and the lengths of texts.
 ghost use mathlib.Core.Path.{_≡_};
 ghost use Prim.Native.Nat.{_-_, _<_, _≤_};
 ghost use lib.ListN.{length, drop};
@@ -189,4 +189,21 @@ pub fn from(s: &[u8], start: usize) -> &[u8]
     ensures { λ r. ⌜ (now r ≡ drop start (now (s .entry))) × (length (now r) ≡ length (now (s .entry)) - start) ⌝ }
 {
     &s[start..]
+}
+
+// Whether the lengths add up to the total. What is left of it is counted, so that no sum can be too large.
+pub fn sums_to(lengths: &[usize], total: usize) -> bool
+    ensures { λ r. ⌜ r ≡ eqb (bytes.sum (now (lengths .entry))) total ⌝ }
+{
+    let mut left = total;
+    let mut i = 0;
+    while i < lengths.len() {
+        let n = lengths[i];
+        if left < n {
+            return false;
+        }
+        left -= n;
+        i += 1;
+    }
+    left == 0
 }

@@ -1,4 +1,5 @@
 // The writer of reference records: it judges the list, and puts the records from left to right. Request 4/13.
+use octets::sums_to;
 use output::low;
 use output::put_text;
 use records::good_reference;
@@ -14,7 +15,6 @@ use rules::SERVICE_LENGTH_AT;
 use rules::Written;
 use writing::fitted;
 use writing::refused;
-use writing::sums_to;
 ghost use mathlib.Core.Path.{_≡_};
 ghost use lib.ListN.{length};
 ghost use Prim.Native.Nat.{_≤_, _*_};

@@ -1,7 +1,7 @@
 -- Which presented identifiers a reference is held against, the first pair that matches, and the first breach of the constraints.
 -- Everything here is a function of lists of names.
 use Prim.Native.Nat.{ℕ, suc}
-use mathlib.Core.Bool.{Bool, true, false, cond, not, _&&_, _||_}
+use mathlib.Core.Bool.{Bool, false, cond, not, _&&_, _||_}
 use mathlib.Core.List.{List, [], _∷_}
 use mathlib.Core.Option.{Option, none, some}
 use lib.Dec.{eqb}

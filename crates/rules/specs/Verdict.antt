@@ -13,7 +13,6 @@ use Rattle.rules.specs.San.{GeneralName}
 use Rattle.rules.specs.Subject.{Attribute}
 use Rattle.rules.specs.Seen.{Seen, tooLong, unreadable, listed}
 use Rattle.rules.specs.Matching.{Presented, Pair, firstPair, firstBreach}
-use Rattle.rules.specs.declared.Row.{Row}
 use Rattle.rules.specs.declared.Place.{Place}
 use Rattle.rules.specs.declared.Witness.{Witness}
 use Rattle.rules.specs.declared.Verdict.{Verdict}

@@ -3,7 +3,7 @@
 use Prim.Native.Nat.{ℕ, _+_, _-_, _*_}
 use mathlib.Core.Bool.{Bool, false, cond, _&&_}
 use mathlib.Core.List.{List, [], _∷_, _++_, map}
-use lib.ListN.{length, take, drop, replicate}
+use lib.ListN.{length, drop, replicate}
 use lib.Dec.{leb, ltb, eqb}
 use Rattle.rules.specs.Bytes.{sum, cut, some?, all, ascii}
 use Rattle.rules.specs.Numbers.{accepted, emptyList, notAName, resultTooLong, bufferTooShort, sanLimit, recordsLimit, serviceSize, domainSize, dnsKind, srvKind, uriKind}

@@ -1,4 +1,5 @@
 // The writer of SAN values: it judges the list, measures the result, and puts the names from left to right. Request 4/13.
+use octets::sums_to;
 use output::element_size;
 use output::put_element;
 use output::put_start;
@@ -13,7 +14,6 @@ use rules::URI;
 use rules::Written;
 use writing::fitted;
 use writing::refused;
-use writing::sums_to;
 ghost use mathlib.Core.Path.{_≡_};
 ghost use Prim.Native.Nat.{_≤_};
 ghost use lib.ListN.{length};

@@ -1,15 +1,15 @@
 -- The laws that the functions' proofs search: one for each return.
-use Prim.Native.Nat.{ℕ, zero, suc, _+_, _-_, _≤_, _<_}
+use Prim.Native.Nat.{ℕ, suc, _+_, _-_, _≤_, _<_}
 use mathlib.Core.Path.{_≡_, refl, sym, ap, _∙_}
 use mathlib.Core.Bool.{Bool, true, false, cond, not, _&&_, _||_}
-use mathlib.Core.Option.{Option, none, some, Option·getD}
+use mathlib.Core.Option.{Option, none, some}
 use mathlib.Core.List.{List, [], _∷_, map}
 use native.Mathlib.Omega.{arith}
 use native.Mathlib.Nat.{add-sub-cancel-left}
 use native.Mathlib.Numerals.{add-one}
 use lib.ListN.{length, take, drop, getD, drop-of-length-le}
 use lib.Seq.{drop-cons}
-use lib.Dec.{T, ltb}
+use lib.Dec.{ltb}
 use borrow.Author.Tests.{lt-ltb, le-ltb, not-true, not-false}
 use Rattle.rules.specs.Bytes.{part, some?, all, any}
 use Rattle.rules.specs.Numbers.{sanLimit, subjectLimit, constraintsLimit, recordsLimit}
@@ -25,7 +25,7 @@ use Rattle.rules.specs.declared.Outcome.{Outcome}
 use Rattle.rules.specs.declared.Outcome.the-variants.{Refused, Broken, Matched, Mismatched}
 use Rattle.reading.specs.Reader.{isSome}
 use Rattle.reading.specs.Strings.{readSan, readSubject, readConstraints}
-use Rattle.reading.specs.Calls.{inputs, outcomeOn, verdictOn, witnessTextOn, witnessPartOn, witnessPlaceOn}
+use Rattle.reading.specs.Calls.{inputs, verdictOn, witnessTextOn, witnessPartOn, witnessPlaceOn}
 use Rattle.strings.specs.Counts.{placeCount}
 use Rattle.strings.specs.declared.Count.{Count}
 use Rattle.strings.specs.declared.Count.the-variants.{Of, Unreadable}
@@ -35,7 +35,7 @@ use Rattle.constrained.specs.Breaches.{breachOf}
 use Rattle.constrained.specs.declared.Breached as breached
 use Rattle.constrained.specs.declared.Breached.the-variants.{At, Nothing}
 use Rattle.issuers.specs.Strings.{stringsIn, stringAt, fit-count}
-use Rattle.pairs.specs.Pairs.{Fits, OutcomeFits}
+use Rattle.pairs.specs.Pairs.{OutcomeFits}
 use Rattle.verdict.specs.Judging.{constraintsLong, anyLong, subjectRead, constraintsRead, refusalOf, SmallWitness, Small, SmallNumbers, SmallPlace, numbers-small, part-small}
 use Rattle.verdict.proofs.Refusing.{whole, AllRead, sizes-fit, lengths-fit, refused-is, all-read, judged-is}
 

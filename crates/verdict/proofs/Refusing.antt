@@ -1,25 +1,25 @@
 -- The refusals in their order: what the code decides is what the rules say of the four inputs.
-use Prim.Native.Nat.{ℕ, zero, suc, _≤_, _<_}
+use Prim.Native.Nat.{ℕ, zero, suc, _≤_}
 use mathlib.Core.Path.{_≡_, refl, sym, ap, _∙_}
-use mathlib.Core.Bool.{Bool, true, false, cond, not, _&&_, _||_}
-use mathlib.Core.Option.{Option, none, some, Option·getD}
-use mathlib.Core.List.{List, [], _∷_, map}
+use mathlib.Core.Bool.{Bool, true, false, cond, not, _||_}
+use mathlib.Core.Option.{none, some}
+use mathlib.Core.List.{List, [], map}
 use native.Mathlib.Omega.{arith}
 use lib.ListN.{length}
-use lib.Dec.{T, ltb}
+use lib.Dec.{ltb}
 use borrow.Author.Tests.{ltb-false}
 use Rattle.rules.proofs.Cases.{by-cases}
-use Rattle.rules.specs.Bytes.{all, any, cut}
+use Rattle.rules.specs.Bytes.{any}
 use Rattle.rules.specs.Numbers.{sanLimit, subjectLimit, constraintsLimit, recordsLimit}
 use Rattle.rules.specs.Records.{goodRecords, referencesOf}
-use Rattle.rules.specs.Seen.{Seen, together, lengthsFit, stringsOf, stringsBy, seenRecords, sanInput, subjectInput, constraintsInput}
-use Rattle.rules.specs.Verdict.{isLong, isUnreadable, listOf, matchedOr, brokenOr, judged, outcomeOf}
+use Rattle.rules.specs.Seen.{together, lengthsFit, stringsBy, seenRecords, sanInput, subjectInput, constraintsInput}
+use Rattle.rules.specs.Verdict.{isLong, isUnreadable, listOf, judged, outcomeOf}
 use Rattle.rules.specs.declared.Outcome.{Outcome}
-use Rattle.rules.specs.declared.Outcome.the-variants.{Refused, Broken, Matched, Mismatched}
+use Rattle.rules.specs.declared.Outcome.the-variants.{Refused}
 use Rattle.reading.specs.Reader.{readElement}
 use Rattle.reading.specs.Strings.{readSan, readSubject, readConstraints, readSides}
 use Rattle.reading.specs.Views.{seenSan, seenSubject, seenConstraints}
-use Rattle.reading.specs.Calls.{inputs, seenAll, seenIssuers, outcomeOn}
+use Rattle.reading.specs.Calls.{inputs, seenIssuers, outcomeOn}
 use Rattle.der.specs.Runs.{validated, namesOf}
 use Rattle.issuers.specs.Strings.{stringsIn, fit-strings, fit-cut, fit-sizes, wrong-strings}
 use Rattle.verdict.specs.Judging.{constraintsLong, anyLong, subjectRead, constraintsRead, refusalOf}

@@ -1,14 +1,14 @@
 -- What is seen of the four inputs, by the tests that the code makes.
-use Prim.Native.Nat.{ℕ, _≤_, _<_}
-use mathlib.Core.Path.{_≡_, refl, sym, ap, _∙_}
+use Prim.Native.Nat.{ℕ}
+use mathlib.Core.Path.{_≡_, refl, ap, _∙_}
 use mathlib.Core.Bool.{Bool, true, false, cond, not, _&&_, _||_, true≢false}
 use mathlib.Core.Option.{Option, none, some, Option·getD}
 use mathlib.Core.List.{List, [], _∷_, map}
 use lib.ListN.{length}
-use lib.Dec.{T, ltb}
+use lib.Dec.{ltb}
 use Rattle.rules.specs.Bytes.{some?, all, any}
 use Rattle.rules.specs.Numbers.{recordsLimit}
-use Rattle.rules.specs.Records.{Reference, goodRecords, referencesOf}
+use Rattle.rules.specs.Records.{goodRecords, referencesOf}
 use Rattle.rules.specs.Seen.{Seen, tooLong, unreadable, listed, Input, andSeen, together, seenRecords}
 use Rattle.rules.specs.Verdict.{isLong, isUnreadable, listOf}
 use Rattle.reading.specs.Reader.{isSome}

@@ -25,7 +25,6 @@ use strings::Count;
 use strings::constraints_count;
 use strings::san_count;
 use strings::subject_count;
-ghost use Prim.Native.Nat.{_≤_};
 ghost use mathlib.Core.Path.{_≡_};
 ghost use mathlib.Core.Bool.{true};
 ghost use mathlib.Core.Option.{some};

@@ -13,7 +13,7 @@ use Rattle.record_writer.proofs.good_references.Tie as tie
 use Rattle.record_writer.proofs.good_references.Reads as reads
 use Rattle.record_writer.proofs.good_references.Lts as lts
 use Rattle.records.proofs.good_reference.Reads as good-reference-reads
-use Rattle.writing.proofs.sums_to.Reads as sums-to-reads
+use Rattle.octets.proofs.sums_to.Reads as sums-to-reads
 
 abbrev Inv-loop : tie.InvT-loop
 Inv-loop texts lengths kinds whole at₀ i₀ at i = (i ≤ length kinds) × (length lengths ≡ 2 * length kinds) × EndsAt lengths (length texts) (2 * i) at × Judging recordWriter (request kinds lengths texts) (referencesFrom kinds lengths texts i at)

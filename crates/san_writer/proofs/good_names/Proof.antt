@@ -13,7 +13,7 @@ use Rattle.san_writer.proofs.good_names.Tie as tie
 use Rattle.san_writer.proofs.good_names.Reads as reads
 use Rattle.san_writer.proofs.good_names.Lts as lts
 use Rattle.san_writer.proofs.good_identifier.Reads as good-identifier-reads
-use Rattle.writing.proofs.sums_to.Reads as sums-to-reads
+use Rattle.octets.proofs.sums_to.Reads as sums-to-reads
 
 abbrev Inv-loop : tie.InvT-loop
 Inv-loop texts lengths kinds whole at₀ i₀ at i = (i ≤ length kinds) × (length lengths ≡ length kinds) × EndsAt lengths (length texts) i at × Judging sanWriter (request kinds lengths texts) (namesFrom kinds lengths texts i at)

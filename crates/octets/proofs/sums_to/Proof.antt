@@ -1,12 +1,12 @@
 use Prim.Native.Nat.{_≤_, _-_}
 use lib.ListN.{length}
-use Rattle.writing.proofs.Adding.{AddsUp}
+use Rattle.octets.proofs.Adding.{AddsUp}
 use borrow.Author.Needs.{needs}
-use Rattle.writing.proofs.Laws.{laws}
-use Rattle.writing.proofs.sums_to.Statement.{statement}
-use Rattle.writing.proofs.sums_to.Tie as tie
-use Rattle.writing.proofs.sums_to.Reads as reads
-use Rattle.writing.proofs.sums_to.Lts as lts
+use Rattle.octets.proofs.Laws.{laws}
+use Rattle.octets.proofs.sums_to.Statement.{statement}
+use Rattle.octets.proofs.sums_to.Tie as tie
+use Rattle.octets.proofs.sums_to.Reads as reads
+use Rattle.octets.proofs.sums_to.Lts as lts
 
 abbrev Inv-loop : tie.InvT-loop
 Inv-loop lengths total left₀ i₀ left i = (i ≤ length lengths) × AddsUp lengths total i left
