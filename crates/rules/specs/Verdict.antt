@@ -122,7 +122,7 @@ withPlace v text = record {
   «text_length» = text .length;
 }
 
--- 6/13: "answers one struct .., so that a caller who wants all numbers pays for one verdict"
+-- all numbers that one outcome gives
 unfoldable pub allNumbers : Outcome → VerdictNumbers
 allNumbers o = withPlace (numbersOf o) (witnessPart o)
 
