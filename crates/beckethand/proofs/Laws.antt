@@ -20,8 +20,8 @@ use Rattle.rules.specs.declared.Shown.{Shown}
 use Rattle.rules.specs.declared.Sight.the-variants.{Name, End}
 use Rattle.rules.specs.declared.View.{View}
 use Rattle.rules.specs.declared.ViewNumbers.{ViewNumbers}
-use Rattle.reading.specs.Calls.{Inputs, inputs, seenIssuers, outcomeOn, verdictOn, witnessPartOn, refusalOf, seenRows, openingOn}
-use Rattle.verdict.specs.Judging.{Small, SmallNumbers, SmallPlace, numbers-small, part-small}
+use Rattle.reading.specs.Calls.{Inputs, inputs, seenIssuers, outcomeOn, refusalOf, seenRows, openingOn}
+use Rattle.verdict.specs.Judging.{numbers-are-small, place-is-small, numbers-of-inputs, place-of-inputs}
 
 -- ---- the outcome, by the lengths that C hands over
 
@@ -36,22 +36,7 @@ module _ (S J C R : List ℕ) where
   unfolding stringsBy
   outcome-by b l e o f = f ∙ same-strings (some l) (lengthsFromC b) (e C)
 
-module _ (S J : List ℕ) (o : Outcome) (small : Small S J o) where
-  pub numbers-are-small : (v : Verdict) → v ≡ numbersOf o → SmallNumbers v
-  numbers-are-small v e = rw e (numbers-small S J o small)
-
-  pub place-is-small : (p : Place) → p ≡ witnessPart o → SmallPlace p
-  place-is-small p e = rw e (part-small S J o small)
-
 module _ (i : Inputs) (o : Outcome) (o-is : o ≡ outcomeOn i) where
-  pub numbers-by : (v : Verdict) → v ≡ numbersOf o → v ≡ verdictOn i
-  unfolding verdictOn
-  numbers-by v e = e ∙ ap numbersOf o-is
-
-  pub place-by : (p : Place) → p ≡ witnessPart o → p ≡ witnessPartOn i
-  unfolding witnessPartOn
-  place-by p e = e ∙ ap witnessPart o-is
-
   -- all numbers are those of one outcome
   pub all-by : (v : Verdict) → v ≡ numbersOf o → (p : Place) → p ≡ witnessPart o → (r : VerdictNumbers) → r ≡ withPlace v p → r ≡ allNumbers (outcomeOn i)
   unfolding allNumbers
@@ -134,8 +119,8 @@ pub ruleset laws = (
   outcome-by,
   numbers-are-small,
   place-is-small,
-  numbers-by,
-  place-by,
+  numbers-of-inputs,
+  place-of-inputs,
   all-by,
   with-place,
   answer-of,

@@ -36,7 +36,7 @@ use Rattle.constrained.specs.declared.Breached as breached
 use Rattle.constrained.specs.declared.Breached.the-variants.{At, Nothing}
 use Rattle.issuers.specs.Strings.{stringsIn, stringAt, fit-count}
 use Rattle.pairs.specs.Pairs.{OutcomeFits}
-use Rattle.verdict.specs.Judging.{constraintsLong, anyLong, subjectRead, constraintsRead, refusalOf, SmallWitness, Small, SmallNumbers, SmallPlace, numbers-small, part-small}
+use Rattle.verdict.specs.Judging.{constraintsLong, anyLong, subjectRead, constraintsRead, refusalOf, SmallWitness, Small, numbers-are-small, place-is-small, numbers-of-inputs, place-of-inputs}
 use Rattle.verdict.proofs.Refusing.{whole, AllRead, sizes-fit, lengths-fit, refused-is, all-read, judged-is}
 
 -- ---- any_long
@@ -307,14 +307,6 @@ module _ (o : Outcome) where
   unfolding numbersOf
   num-mismatched v e f = f ∙ rw e
 
-module _ (R S J C L : List ℕ) (o : Outcome) (v : Verdict) (v-is : v ≡ numbersOf o) where
-  pub verdict-is : o ≡ whole R S J C L → v ≡ verdictOn (inputs S J C (some L) R)
-  unfolding verdictOn
-  verdict-is e = v-is ∙ ap numbersOf e
-
-  pub verdict-small : Small S J o → SmallNumbers v
-  verdict-small q = rw v-is (numbers-small S J o q)
-
 -- ---- the witness's text
 
 module _ (o : Outcome) where
@@ -333,14 +325,6 @@ module _ (o : Outcome) where
   pub text-mismatched : o ≡ Mismatched → record { start = 0; length = 0 } ≡ witnessPart o
   unfolding witnessPart
   text-mismatched e = rw e
-
-module _ (R S J C L : List ℕ) (o : Outcome) (p : Place) (p-is : p ≡ witnessPart o) where
-  pub place-is : o ≡ whole R S J C L → p ≡ witnessPartOn (inputs S J C (some L) R)
-  unfolding witnessPartOn
-  place-is e = p-is ∙ ap witnessPart e
-
-  pub place-small : Small S J o → SmallPlace p
-  place-small q = rw p-is (part-small S J o q)
 
 -- ---- the witness, in its string
 
@@ -418,8 +402,8 @@ pub ruleset texts = (
   text-refused,
   text-broken,
   text-mismatched,
-  place-is,
-  place-small,
+  place-of-inputs,
+  place-is-small,
   fits-subject,
   fits-san,
   bytes-subject,
@@ -462,8 +446,8 @@ pub ruleset laws = (
   num-broken,
   num-matched,
   num-mismatched,
-  verdict-is,
-  verdict-small,
+  numbers-of-inputs,
+  numbers-are-small,
 )
 
 pub ruleset refusals = (asks-fit, ref-long, ref-records, ref-san, ref-subject, ref-constraints, ref-none)

@@ -1,5 +1,6 @@
 -- What the code of the verdict decides step by step: the refusals in their order, and how large the numbers of an outcome are.
 use Prim.Native.Nat.{ℕ, _+_, _≤_}
+use mathlib.Core.Path.{_≡_, ap, _∙_}
 use mathlib.Core.Bool.{Bool, true, cond, not, _||_}
 use mathlib.Core.List.{List}
 use native.Mathlib.Omega.{arith}
@@ -16,6 +17,7 @@ use Rattle.rules.specs.declared.Verdict.{Verdict}
 use Rattle.rules.specs.declared.Outcome.{Outcome}
 use Rattle.rules.specs.declared.Outcome.the-variants.{Refused, Broken, Matched, Mismatched}
 use Rattle.reading.specs.Reader.{isSome}
+use Rattle.reading.specs.Calls.{Inputs, outcomeOn, verdictOn, witnessPartOn}
 use Rattle.reading.specs.Strings.{readSan, readSubject, readConstraints}
 use Rattle.der.specs.Runs.{validated}
 use Rattle.issuers.specs.Strings.{stringsIn}
@@ -76,7 +78,7 @@ pub record SmallPlace (p : Place) : Type 0 where
   pub length-small : p .length ≤ sanLimit
 
 -- the numbers of a small outcome are small
-pub numbers-small : (S J : List ℕ) (p : Outcome) → Small S J p → SmallNumbers (numbersOf p)
+numbers-small : (S J : List ℕ) (p : Outcome) → Small S J p → SmallNumbers (numbersOf p)
 unfolding numbersOf Small
 numbers-small S J (Refused n) q = record {
   answer-small = q;
@@ -111,9 +113,26 @@ numbers-small S J Mismatched q = record {
   issuer-small = omega arith;
 }
 
-pub part-small : (S J : List ℕ) (p : Outcome) → Small S J p → SmallPlace (witnessPart p)
+part-small : (S J : List ℕ) (p : Outcome) → Small S J p → SmallPlace (witnessPart p)
 unfolding Small witnessPart
 part-small S J (Refused n) q = record { start-small = omega arith; length-small = omega arith }
 part-small S J (Broken b) q = record { start-small = omega arith; length-small = omega arith }
 part-small S J (Matched w) q = record { start-small = omega (arith, q .text-small); length-small = omega (arith, q .text-small) }
 part-small S J Mismatched q = record { start-small = omega arith; length-small = omega arith }
+
+module _ (S J : List ℕ) (o : Outcome) (small : Small S J o) where
+  pub numbers-are-small : (v : Verdict) → v ≡ numbersOf o → SmallNumbers v
+  numbers-are-small v e = rw e (numbers-small S J o small)
+
+  pub place-is-small : (p : Place) → p ≡ witnessPart o → SmallPlace p
+  place-is-small p e = rw e (part-small S J o small)
+
+-- the numbers and the text's place of an outcome are those of the inputs that it is the outcome of
+module _ (i : Inputs) (o : Outcome) (o-is : o ≡ outcomeOn i) where
+  pub numbers-of-inputs : (v : Verdict) → v ≡ numbersOf o → v ≡ verdictOn i
+  unfolding verdictOn
+  numbers-of-inputs v e = e ∙ ap numbersOf o-is
+
+  pub place-of-inputs : (p : Place) → p ≡ witnessPart o → p ≡ witnessPartOn i
+  unfolding witnessPartOn
+  place-of-inputs p e = e ∙ ap witnessPart o-is
