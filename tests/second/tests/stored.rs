@@ -189,7 +189,7 @@ const WITHOUT_NAMES: [Spelled; 6] = [
 ];
 
 /// More names than one, and faults, in `listed`.
-const SEVERAL: [Spelled; 8] = [
+const SEVERAL: [Spelled; 9] = [
     ("three entries", Which::San, b"\x30\x09\x82\x01a\x86\x00\x87\x02\xFF\xFF"),
     ("four entries", Which::San, b"\x30\x08\x82\x00\x82\x00\x82\x00\x82\x00"),
     ("five entries", Which::San, b"\x30\x0A\x82\x00\x82\x00\x82\x00\x82\x00\x82\x00"),
@@ -198,14 +198,8 @@ const SEVERAL: [Spelled; 8] = [
     ("a set out of order", Which::Subject, b"\x30\x12\x31\x10\x30\x06\x06\x01\x2A\x0C\x01b\x30\x06\x06\x01\x2A\x0C\x01a"),
     ("both sides", Which::Constraints, b"\x30\x10\xA0\x04\x30\x02\x82\x00\xA1\x08\x30\x02\x82\x00\x30\x02\x81\x00"),
     ("sides out of order", Which::Constraints, b"\x30\x0C\xA1\x04\x30\x02\x82\x00\xA0\x04\x30\x02\x82\x00"),
+    ("leading dot", Which::Constraints, b"\x30\x08\xA0\x06\x30\x04\x82\x02.b"),
 ];
-
-/// A dNSName restriction that is no domain, in `listed` (request 6/13).
-const LEADING_DOT: Spelled = (
-    "leading dot",
-    Which::Constraints,
-    b"\x30\x08\xA0\x06\x30\x04\x82\x02.b",
-);
 
 /// A tag and a length in one, two or three bytes, whichever is asked for.
 fn header(tag: u8, length: usize, form: usize) -> Vec<u8> {
@@ -258,8 +252,6 @@ fn listed() {
         lines.push(in_four(&title, Which::San, &one_name(length, form)));
     }
     lines.extend(next_to_limits());
-    let (title, which, bytes) = LEADING_DOT;
-    lines.push(in_four(title, which, bytes));
     for count in [512, 513, 600] {
         let bytes = [header(0x30, 2 * count, 3), [0x82, 0].repeat(count)].concat();
         lines.push(for_512(&format!("{count} entries"), &bytes));
@@ -286,7 +278,7 @@ fn next_to_limits() -> Vec<Vec<u8>> {
         ));
     }
     for size in [16384, 16385] {
-        let bytes = nested(size, &[0x30, 0xA1, 0x30], b"", 0x82);
+        let bytes = nested(size, &[0x30, 0xA1, 0x30], b"", 0x86);
         lines.push(in_four(
             &format!("constraints of {size}"),
             Which::Constraints,
