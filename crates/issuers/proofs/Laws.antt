@@ -9,12 +9,11 @@ use native.Mathlib.Numerals.{add-one}
 use lib.ListN.{length, take, drop, getD, set, drop-of-length-le}
 use lib.Seq.{drop-cons, take-suc-set}
 use lib.Dec.{eqb}
-use borrow.Author.Tests.{le-leb, lt-leb, eq-eqb, ne-eqb, eqb-true, eqb-false, not-true, not-false}
+use borrow.Author.Tests.{le-leb, lt-leb, not-true, not-false}
 use Rattle.rules.specs.Bytes.{sum}
-use Rattle.rules.proofs.Cases.{by-cases}
 use Rattle.rules.specs.Numbers.{mostIssuers}
 use Rattle.rules.specs.Seen.{lengthsFit, stringsOf, stringsBy, lengthsFromC}
-use Rattle.issuers.specs.Strings.{stringsIn, stringAt, startOf, sum-split, start-next, start-fits, fit-sum, cut-at, fit-cut, fit-count, wrong-none}
+use Rattle.issuers.specs.Strings.{stringsIn, stringAt, startOf, start-next, start-fits, fit-sum, cut-at, fit-cut, fit-count, wrong-none}
 use Rattle.issuers.specs.FromC.{pairs, from-even, from-odd, pairs-length}
 
 -- ---- lengths_fit

@@ -18,14 +18,13 @@ use Rattle.rules.specs.Seen.{lengthsFit}
 use Rattle.rules.specs.Matching.{Pair, firstPair, firstBreach}
 use Rattle.rules.specs.Verdict.{past, witnessPart, witnessText, witnessPlace, witnessOf, matchedOr, brokenOr, judged, numbers, numbersOf}
 use Rattle.rules.specs.declared.Verdict.{Verdict}
-use Rattle.rules.specs.declared.Place.{Place}
 use Rattle.rules.specs.declared.Witness.{Witness}
 use Rattle.rules.specs.declared.Breach.{Breach}
 use Rattle.rules.specs.declared.Outcome.{Outcome}
 use Rattle.rules.specs.declared.Outcome.the-variants.{Refused, Broken, Matched, Mismatched}
 use Rattle.reading.specs.Reader.{isSome}
 use Rattle.reading.specs.Strings.{readSan, readSubject, readConstraints}
-use Rattle.reading.specs.Calls.{inputs, verdictOn, witnessTextOn, witnessPartOn, witnessPlaceOn}
+use Rattle.reading.specs.Calls.{inputs, witnessTextOn, witnessPlaceOn}
 use Rattle.strings.specs.Counts.{placeCount}
 use Rattle.strings.specs.declared.Count.{Count}
 use Rattle.strings.specs.declared.Count.the-variants.{Of, Unreadable}
