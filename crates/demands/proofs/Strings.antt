@@ -6,7 +6,7 @@ use mathlib.Core.Option.{Option, none, some, Option·some-injective}
 use mathlib.Core.List.{List, [], _∷_, _++_, map}
 use native.Mathlib.Omega.{arith}
 use lib.ListN.{length, take, drop, getElem?, length-append, length-drop, length-map, take-append-drop}
-use lib.Seq.{take-append-seam, drop-append-seam, length-take-le}
+use lib.Seq.{take-append-seam, drop-append-seam}
 use lib.Dec.{eqb, leb}
 use borrow.Author.Tests.{le-leb, leb-true, eq-eqb, eqb-true}
 use Rattle.rules.specs.Bytes.{cut, sum}
@@ -15,6 +15,7 @@ use Rattle.rules.specs.Der.{Member, run}
 use Rattle.rules.specs.San.{GeneralName}
 use Rattle.rules.specs.Seen.{Seen, tooLong, unreadable, listed, constraintsInput, Sees, lengthsFit, stringsOf, stringsBy, andSeen, together}
 use Rattle.rules.proofs.Cases.{by-cases, and-left, and-right}
+use Rattle.rules.proofs.Lengths.{cut-sizes}
 use Rattle.reading.specs.Answers.{no-some}
 use Rattle.reading.specs.Views.{seenConstraints, sees-constraints, constraints-seen}
 use Rattle.reading.specs.Calls.{Inputs, seenAll, seenIssuers}
@@ -33,7 +34,7 @@ unfolding sum run
 sum-run [] = refl
 sum-run (s ∷ l) = rw (length-append, sum-run l)
 
--- and what is cut by lengths stands end to end, and has those lengths
+-- and what is cut by lengths stands end to end
 run-cut : (ns b : List ℕ) → sum ns ≡ length b → run (λ string. string) (cut ns b) ≡ b
 unfolding sum cut run
 run-cut [] [] e = refl
@@ -41,15 +42,6 @@ run-cut [] (x ∷ b) e = absurd (omega arith)
 run-cut (n ∷ ns) b e =
     let f = length-drop n b in
     ap (λ x. take n b ++ x) (run-cut ns (drop n b) (omega arith)) ∙ take-append-drop n b
-
-lengths-cut : (ns b : List ℕ) → sum ns ≡ length b → map length (cut ns b) ≡ ns
-unfolding sum cut
-lengths-cut [] b e = refl
-lengths-cut (n ∷ ns) b e =
-    let f = length-drop n b in
-    let p : length (take n b) ≡ n = length-take-le n b (omega arith) in
-    let q : map length (cut ns (drop n b)) ≡ ns = lengths-cut ns (drop n b) (omega arith) in
-    λ i. p i ∷ q i
 
 whole : (strings : List (List ℕ)) → length strings ≤ mostIssuers → stringsBy (some (map length strings)) (run (λ string. string) strings) ≡ some strings
 unfolding stringsBy stringsOf lengthsFit
@@ -76,7 +68,7 @@ cut-strings s strings e = go (s .lengths) refl e
         let few = leb-true (length ns) mostIssuers (and-left (leb (length ns) mostIssuers) (eqb (sum ns) (length (s .constraints))) t) in
         let all = eqb-true (sum ns) (length (s .constraints)) (and-right (leb (length ns) mostIssuers) (eqb (sum ns) (length (s .constraints))) t) in
         let c : cut ns (s .constraints) ≡ strings = Option·some-injective _ strings (rw t at f) in
-        let d : map length strings ≡ ns = ap (map length) (sym c) ∙ lengths-cut ns (s .constraints) all in
+        let d : map length strings ≡ ns = ap (map length) (sym c) ∙ cut-sizes ns (s .constraints) all in
         let n = length-map strings length in
         let m = ap length d in
         record {

@@ -5,13 +5,14 @@ use mathlib.Core.Bool.{true, false, and-eq-true-iff}
 use mathlib.Core.List.{List, [], _∷_, _++_, map}
 use mathlib.Core.Option.{none, some, Option·getD}
 use native.Mathlib.Omega.{arith}
-use lib.ListN.{length, take, drop, getD, take-append-drop, length-take, length-drop}
+use lib.ListN.{length, take, drop, getD, take-append-drop}
 use lib.Seq.{drop-drop, take-suc}
 use lib.Dec.{leb, eqb}
 use borrow.Author.Tests.{eqb-true}
 use Rattle.rules.specs.Bytes.{cut, sum}
 use Rattle.rules.specs.Numbers.{mostIssuers}
 use Rattle.rules.specs.Seen.{lengthsFit, stringsOf}
+use Rattle.rules.proofs.Lengths.{cut-sizes}
 
 -- the strings; none where the lengths are wrong
 unfoldable pub stringsIn : List ℕ → List ℕ → List (List ℕ)
@@ -57,15 +58,6 @@ pub cut-length : (lengths bytes : List ℕ) → length (cut lengths bytes) ≡ l
 unfolding cut
 cut-length [] bytes = refl
 cut-length (n ∷ ns) bytes = ap suc (cut-length ns (drop n bytes))
-
--- each is as long as its length says
-pub cut-sizes : (lengths bytes : List ℕ) → sum lengths ≡ length bytes → map length (cut lengths bytes) ≡ lengths
-unfolding cut sum
-cut-sizes [] bytes e = refl
-cut-sizes (n ∷ ns) bytes e =
-    let t : length (take n bytes) ≡ n = rw (length-take n bytes) (omega arith) in
-    let d : sum ns ≡ length (drop n bytes) = rw (length-drop n bytes) (omega arith) in
-    rw (t, cut-sizes ns (drop n bytes) d)
 
 -- string k, as a part of the bytes
 pub cut-at : (lengths bytes : List ℕ) (k : ℕ) → k < length lengths

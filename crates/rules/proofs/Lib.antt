@@ -11,6 +11,7 @@ pub mod Issuers
 -- The names of document 01 as it writes them: parts joined to a text. `Joined` states them, the rest is their proof.
 pub mod Cases
 pub mod Cut
+pub mod Lengths
 pub mod Free
 pub mod Labels
 pub mod Joined
