@@ -1,16 +1,17 @@
 -- Whether an entry of a SAN breaks a string, and the first entry that does, one entry at a time.
 use Prim.Native.Nat.{ℕ, suc, _+_, _-_, _≤_, _<_}
 use mathlib.Core.Path.{_≡_, refl, sym, ap, _∙_}
-use mathlib.Core.Bool.{Bool, true, false, cond, not}
+use mathlib.Core.Bool.{Bool, true, false, cond, not, _||_}
 use mathlib.Core.Option.{Option, none, some}
-use mathlib.Core.List.{List}
+use mathlib.Core.List.{List, [], _∷_}
 use native.Mathlib.Omega.{arith}
 use native.Mathlib.Numerals.{add-one}
 use lib.ListN.{length, take, drop}
 use borrow.Author.Tests.{not-true, not-false}
 use Rattle.rules.specs.Der.{Member}
 use Rattle.rules.specs.San.{GeneralName}
-use Rattle.rules.specs.Matching.{if-some, allowed, breaksAs, breaks, firstBroken}
+use Rattle.rules.specs.Matching.{if-some, srvForm, dnsForm, allowed, breaksAs, breaks, firstBroken}
+use Rattle.octets.proofs.Cases.{clash}
 use Rattle.reading.specs.Reader.{isSome}
 use Rattle.reading.specs.Strings.{readName, readSan, readConstraints}
 use Rattle.reading.specs.Answers.{some-of}
@@ -107,6 +108,35 @@ module _ (cs : List (Member GeneralName)) (s : List ℕ) (start end at i : ℕ) 
     unfolding BrokenLeft
     broken-next q = rw add-one (rw (broken-step, q) at left)
 
+-- ---- no subtree of either form
+
+-- then every name is allowed, and none breaks the string
+module _ (cs : List ℕ) (srv dns : Sides) (v : FormSides (formOf 9) cs srv) (w : FormSides (formOf 2) cs dns)
+    (s-free : restricting srv ≡ false) (d-free : restricting dns ≡ false) where
+  kept : (n : GeneralName) → breaks (namesOf readConstraints cs) n ≡ false
+  unfolding breaks breaksAs
+  kept n = rw (fine 9 (all-allowed 9 cs srv v s-free) (srvForm .text n), fine 2 (all-allowed 2 cs dns w d-free) (dnsForm .text n))
+    where
+      fine : (kind : ℕ) → ((text : List ℕ) → allowed (formOf kind) (namesOf readConstraints cs) text ≡ true) → (o : Option (List ℕ))
+          → if-some o (λ text. not (allowed (formOf kind) (namesOf readConstraints cs) text)) ≡ false
+      fine kind h none = refl
+      fine kind h (some c) = rw (h c)
+
+  none-broken : (i : ℕ) (l : List GeneralName) → firstBroken i (namesOf readConstraints cs) l ≡ none
+  unfolding firstBroken
+  none-broken i [] = refl
+  none-broken i (n ∷ l) = rw (kept n) (none-broken (suc i) l)
+
+pub unrestricted : (cs : List ℕ) (srv dns : Sides) → FormSides (formOf 9) cs srv → FormSides (formOf 2) cs dns → (any : Bool)
+    → any ≡ restricting srv || restricting dns → not any ≡ true → (l : List GeneralName) → Nothing ≡ firstOf (firstBroken 0 (namesOf readConstraints cs) l)
+unfolding firstOf
+unrestricted cs srv dns v w any any-is e l = both (restricting srv) (restricting dns) refl refl
+  where
+    both : (a b : Bool) → restricting srv ≡ a → restricting dns ≡ b → Nothing ≡ firstOf (firstBroken 0 (namesOf readConstraints cs) l)
+    both false false p q = rw (none-broken cs srv dns v w p q 0 l)
+    both true b p q = clash (rw p at any-is) (not-true any e)
+    both false true p q = clash (rw (p, q) at any-is) (not-true any e)
+
 -- ---- the index is no greater than the SAN's length
 
 pub index-here : (i n : ℕ) → i ≤ n → (j : ℕ) → At i ≡ At j → j ≤ n
@@ -149,6 +179,7 @@ pub ruleset laws = (
   broken-end,
   broken-here,
   broken-next,
+  unrestricted,
   index-here,
   index-none,
   san-none,

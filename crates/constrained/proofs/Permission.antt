@@ -47,6 +47,14 @@ module _ (r : Sides) where
   unfolding restricting
   restricts-excluded h = rw (le-ltb _ _ h)
 
+-- of either form
+module _ (srv dns : Sides) (r : Bool) (r-is : r ≡ restricting srv) where
+  pub either-form : r ≡ true → true ≡ restricting srv || restricting dns
+  either-form e = rw (← r-is, e)
+
+  pub other-form : r ≡ false → (q : Bool) → q ≡ restricting dns → q ≡ restricting srv || restricting dns
+  other-form e q q-is = q-is ∙ rw (← r-is, e)
+
 -- ---- a presented identifier
 
 module _ (kind : ℕ) (s : List ℕ) (r : Sides) (w : FormSides (formOf kind) s r) where
@@ -130,6 +138,8 @@ pub ruleset laws = (
   form-sides,
   restricts-permitted,
   restricts-excluded,
+  either-form,
+  other-form,
   permitted-run,
   excluded-run,
   known-id,

@@ -9,7 +9,7 @@ use entries::name_text;
 use rules::Breach;
 ghost use Prim.Native.Nat.{ℕ, _+_, _≤_};
 ghost use mathlib.Core.Path.{_≡_};
-ghost use mathlib.Core.Bool.{true};
+ghost use mathlib.Core.Bool.{true, _||_};
 ghost use mathlib.Core.List.{map};
 ghost use lib.ListN.{length};
 ghost use Rattle.rules.specs.Bytes.{all, before};
@@ -267,6 +267,17 @@ fn restricts(sides: Sides) -> bool
     excluded.start < excluded.end
 }
 
+// Whether there is any subtree of either form.
+fn restricts_any(srv: Sides, dns: Sides) -> bool
+    ensures { λ r. ⌜ r ≡ restricting srv || restricting dns ⌝ }
+{
+    let any = restricts(srv);
+    if any {
+        return true;
+    }
+    restricts(dns)
+}
+
 // "each presented SRVName must be an SRV-ID, lie in no excluded SRVName subtree, and, if any permitted SRVName subtree exists,
 // lie in one"; of dNSNames the same.
 fn allowed(constraints: &[u8], sides: Sides, kind: usize, text: &[u8]) -> bool
@@ -363,7 +374,8 @@ fn first_in(
     First::Nothing
 }
 
-// The index of the first entry of a SAN that breaks one string; the index counts all entries from 0.
+// The index of the first entry of a SAN that breaks one string; the index counts all entries from 0. Where the string holds no subtree of
+// either form, the SAN is not looked at.
 fn first_broken(san: &[u8], constraints: &[u8]) -> First
     requires { ⌜ validated readSan (now san) ≡ true ⌝ }
     requires { ⌜ validated readConstraints (now constraints) ≡ true ⌝ }
@@ -373,6 +385,10 @@ fn first_broken(san: &[u8], constraints: &[u8]) -> First
     let sides = both_sides(constraints);
     let srv = form_sides(constraints, sides, 9);
     let dns = form_sides(constraints, sides, 2);
+    let any = restricts_any(srv, dns);
+    if !any {
+        return First::Nothing;
+    }
     let end = san.len();
     let e = read_element(san, 0, end);
     let Element::Found {
