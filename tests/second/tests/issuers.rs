@@ -9,28 +9,19 @@ use second::text::{dns_breaks, dns_lies_in};
 use second::tree::record;
 use second::{judge, judge_from_c, Issuers, Outcome};
 
+fn owned(issuers: Issuers) -> Vec<Vec<u8>> {
+    let strings = issuers.strings().iter();
+    strings.map(|string| string.to_vec()).collect()
+}
+
 /// The strings that lengths cut, or `None` for 7.
 fn cut(bytes: &[u8], lengths: &[usize]) -> Option<Vec<Vec<u8>>> {
-    let issuers = Issuers::cut(bytes, lengths.iter().copied())?;
-    Some(
-        issuers
-            .strings()
-            .iter()
-            .map(|string| string.to_vec())
-            .collect(),
-    )
+    Issuers::cut(bytes, lengths.iter().copied()).map(owned)
 }
 
 /// The same from C's lengths.
 fn cut_from_c(bytes: &[u8], lengths: &[u8]) -> Option<Vec<Vec<u8>>> {
-    let issuers = Issuers::from_c(bytes, lengths)?;
-    Some(
-        issuers
-            .strings()
-            .iter()
-            .map(|string| string.to_vec())
-            .collect(),
-    )
+    Issuers::from_c(bytes, lengths).map(owned)
 }
 
 fn strings(strings: &[&str]) -> Option<Vec<Vec<u8>>> {
