@@ -27,7 +27,7 @@ use Rattle.constrained.specs.Breaches.{firstOf, breaksAsAt, breaksAt}
 use Rattle.constrained.specs.declared.Sides.{Sides}
 use Rattle.constrained.specs.declared.First.{First}
 use Rattle.constrained.specs.declared.First.the-variants.{At, Nothing}
-use Rattle.constrained.proofs.Step.{with-entry}
+use Rattle.entries.proofs.Steps.{with-entry}
 use Rattle.constrained.proofs.Texts.{text-there, text-not-there}
 use Rattle.constrained.proofs.Permission.{all-allowed}
 

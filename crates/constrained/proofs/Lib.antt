@@ -1,4 +1,3 @@
-pub mod Step
 pub mod Texts
 pub mod Parts
 pub mod Groups

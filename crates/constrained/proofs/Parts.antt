@@ -13,7 +13,7 @@ use Rattle.der.specs.Places.{elementAt}
 use Rattle.der.specs.Runs.{Run, itemsIn, startOf, endOf, no-items}
 use Rattle.entries.specs.Entries.{formOf, textPlace}
 use Rattle.constrained.specs.Subtrees.{meeting, meetsAt, meetsAny, textsOf, textsIn, Narrowed}
-use Rattle.constrained.proofs.Step.{step-fits, with-subtree}
+use Rattle.entries.proofs.Steps.{step-fits, with-subtree}
 use Rattle.constrained.proofs.Texts.{text-there, text-not-there}
 
 -- no subtree is left

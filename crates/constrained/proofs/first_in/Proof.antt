@@ -5,7 +5,7 @@ use Rattle.der.specs.Runs.{Run, namesOf}
 use Rattle.constrained.proofs.Entry.{BrokenLeft, index-here}
 use borrow.Author.Needs.{needs}
 use Rattle.constrained.proofs.Entry.{laws}
-use Rattle.constrained.proofs.Step.{steps, names}
+use Rattle.entries.proofs.Steps.{steps, names}
 use Rattle.constrained.proofs.first_in.Statement.{statement}
 use Rattle.constrained.proofs.first_in.Tie as tie
 use Rattle.constrained.proofs.first_in.Reads as reads

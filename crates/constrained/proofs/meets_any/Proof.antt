@@ -4,7 +4,7 @@ use Rattle.der.specs.Runs.{Run}
 use Rattle.constrained.proofs.Parts.{MeetsLeft}
 use borrow.Author.Needs.{needs}
 use Rattle.constrained.proofs.Parts.{laws}
-use Rattle.constrained.proofs.Step.{steps, names}
+use Rattle.entries.proofs.Steps.{steps, names}
 use Rattle.constrained.proofs.meets_any.Statement.{statement}
 use Rattle.constrained.proofs.meets_any.Tie as tie
 use Rattle.constrained.proofs.meets_any.Reads as reads

@@ -5,7 +5,7 @@ use Rattle.entries.specs.Entries.{formOf}
 use Rattle.constrained.proofs.Parts.{SameTexts}
 use borrow.Author.Needs.{needs}
 use Rattle.constrained.proofs.Parts.{laws}
-use Rattle.constrained.proofs.Step.{steps, names}
+use Rattle.entries.proofs.Steps.{steps, names}
 use Rattle.constrained.proofs.narrow.Statement.{statement}
 use Rattle.constrained.proofs.narrow.Tie as tie
 use Rattle.constrained.proofs.narrow.Reads as reads
