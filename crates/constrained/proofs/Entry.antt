@@ -50,7 +50,7 @@ module _ (kind : ℕ) (cs s : List ℕ) (at end : ℕ) (h : at + 2 ≤ end) (fit
   pub some-restricts : (r : Sides) (any : Bool) → any ≡ restricting r → not any ≡ false → restricting r ≡ true
   some-restricts r any any-is q = sym any-is ∙ not-false any q
 
-  module _ (r : ℕ) (r-is : r ≡ textPlace (formOf kind) s at end) where
+  module _ (r : ℕ) (r-is : r ≡ textPlace (formOf kind .text) s at end) where
     -- a name of another form
     pub entry-other : end < r → false ≡ breaksAsAt (formOf kind) names s at end
     unfolding breaksAsAt breaksAs

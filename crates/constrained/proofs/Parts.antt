@@ -50,7 +50,7 @@ module _ (kind : ℕ) (s : List ℕ) (start end at : ℕ) (inv : Run readSubtree
   }
 
   module _ (more : at < end) (n : ℕ) (n-is : n ≡ endOf (elementAt s at end)) (b : ℕ) (b-is : b ≡ startOf (elementAt s at end))
-      (r : ℕ) (r-is : r ≡ textPlace (formOf kind) s b n) where
+      (r : ℕ) (r-is : r ≡ textPlace (formOf kind .text) s b n) where
     -- the subtree is of the form
     pub narrow-here : r ≤ n → Narrowed (formOf kind) s start end at
     unfolding SameTexts

@@ -71,7 +71,7 @@ module _ (kind : ℕ) where
 
   -- ---- the text by its place
 
-  module _ (s : List ℕ) (at end : ℕ) (h : at ≤ end) (fits : end ≤ length s) (r : ℕ) (r-is : r ≡ textPlace (formOf kind) s at end) where
+  module _ (s : List ℕ) (at end : ℕ) (h : at ≤ end) (fits : end ≤ length s) (r : ℕ) (r-is : r ≡ textPlace (formOf kind .text) s at end) where
     module _ (m : GeneralName) (m-is : wholeAt s at end ≡ some m) where
       text-last : TextAt s at end (end - length (textOf m)) (textOf m)
       unfolding wholeAt
@@ -101,7 +101,7 @@ module _ (kind : ℕ) where
               absurd (omega arith)
 
   module _ (s : List ℕ) (at end : ℕ) (h : at + 2 ≤ end) (fits : end ≤ length s) (valid : isSome (wholeAt s at end) ≡ true) (r : ℕ)
-      (r-is : r ≡ textPlace (formOf kind) s at end) (x : Bool) (name : List ℕ) where
+      (r-is : r ≡ textPlace (formOf kind .text) s at end) (x : Bool) (name : List ℕ) where
     pub meets-other : end < r → false ≡ meetsAt kind x s at end name
     unfolding meetsAt
     meets-other k = some-of (wholeAt s at end) valid λ m p. rw (p, text-not-there s at end (omega arith) fits r r-is m p k)

@@ -4,7 +4,7 @@ use Rattle.entries.proofs.Others.{srv-oid-is, cn-oid-is, other-no-oid, 
 use Rattle.entries.proofs.Shapes.{shape-other, shape-plain, kind-0C, kind-13, kind-16, kind-cn, kind-other, attribute-tag, attribute-no-oid, attribute-empty, attribute-no-value, attribute-open, attribute-is, subtree-tag, subtree-none, name-fits, subtree-open, subtree-is}
 use Rattle.entries.proofs.Rules.{ascii-of, text-81, text-82, text-86, sealed-87, sealed-88, sealed-A3, sealed-A4, sealed-A5, srv-tag, srv-empty, srv-ascii, no-name, good-malformed, text-fits, good-srv-is, good-other-is, good-other-tag, good-sealed, good-text, good-unknown}
 use Rattle.entries.proofs.Subtrees.{subtree-malformed, subtree-srv-bad, subtree-srv, subtree-other, name-other, name-dns, name-plain, good-subtree-tag, good-subtree-none, good-subtree-open, good-subtree-is}
-use Rattle.entries.proofs.Whole.{whole-found, start-within, dns-other, dns-here, srv-not-other, srv-few, srv-other-length, srv-other-oid, srv-here, long-formed, long-srv, long-other, kind-srv, kind-dns}
+use Rattle.entries.proofs.Whole.{whole-found, start-within, tag-other-text, tag-here, srv-not-other, srv-few, srv-other-length, srv-other-oid, srv-here, long-formed, long-srv, long-other, kind-srv, kind-dns}
 
 pub ruleset laws = (
   not-found,
@@ -74,8 +74,8 @@ pub ruleset laws = (
   good-subtree-is,
   whole-found,
   start-within,
-  dns-other,
-  dns-here,
+  tag-other-text,
+  tag-here,
   srv-not-other,
   srv-few,
   srv-other-length,

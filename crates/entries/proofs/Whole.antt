@@ -1,8 +1,8 @@
--- Where the text of a name of one form starts, by the first bytes of a name that has been validated: they are as the grammar writes them.
+-- Where the text of a name starts, by the first bytes of a name that has been validated: they are as the grammar writes them.
 use Prim.Native.Nat.{ℕ, suc, _+_, _-_, _≤_, _<_}
 use mathlib.Core.Path.{_≡_, refl, sym, ap, _∙_}
 use mathlib.Core.Bool.{Bool, true, false, cond, _&&_}
-use mathlib.Core.Option.{none, some}
+use mathlib.Core.Option.{Option, none, some}
 use mathlib.Core.List.{List, [], _∷_, _++_, append-nil}
 use native.Mathlib.Omega.{arith}
 use native.Mathlib.Numerals.{add-one, add-two, add-three, add-four}
@@ -15,7 +15,7 @@ use Rattle.octets.proofs.Compare.{same-lengths, same-equal}
 use Rattle.rules.specs.Bytes.{same}
 use Rattle.rules.specs.Der.{lengthBytes, element, header}
 use Rattle.rules.specs.San.{GeneralName, plain, other, srvOid, tagOf, contentOf, writeName, goodOid, goodValue, goodName, nameKind}
-use Rattle.rules.specs.Matching.{taggedText, srvText, Form, srvForm, dnsForm}
+use Rattle.rules.specs.Matching.{taggedText, srvText}
 use Rattle.reading.specs.Reader.{isSome, got, raw, readElement}
 use Rattle.reading.specs.Strings.{readOther}
 use Rattle.reading.specs.Answers.{some-of, and-parts}
@@ -65,15 +65,15 @@ short-length n x r rest e h =
 
 -- ---- names by their tags
 
-tag-dns : (m : GeneralName) → tagOf m ≡ 0x82 → taggedText 0x82 m ≡ some (contentOf m)
+tag-text : (w : ℕ) → (w ≡ 0xA0 → ⊥) → (m : GeneralName) → tagOf m ≡ w → taggedText w m ≡ some (contentOf m)
 unfolding tagOf taggedText contentOf
-tag-dns (plain t c) e = rw (eq-eqb t 0x82 e)
-tag-dns (other o t c) e = absurd (omega arith)
+tag-text w k (plain t c) e = rw (eq-eqb t w e)
+tag-text w k (other o t c) e = absurd (k (sym e))
 
-tag-not-dns : (m : GeneralName) → (tagOf m ≡ 0x82 → ⊥) → taggedText 0x82 m ≡ none
+tag-no-text : (w : ℕ) (m : GeneralName) → (tagOf m ≡ w → ⊥) → taggedText w m ≡ none
 unfolding tagOf taggedText
-tag-not-dns (plain t c) n = rw (ne-eqb t 0x82 n)
-tag-not-dns (other o t c) n = refl
+tag-no-text w (plain t c) n = rw (ne-eqb t w n)
+tag-no-text w (other o t c) n = refl
 
 tag-not-other : (m : GeneralName) → (tagOf m ≡ 0xA0 → ⊥) → srvText m ≡ none
 unfolding tagOf srvText
@@ -127,14 +127,14 @@ module _ (s : List ℕ) (at end : ℕ) (h : at + 2 ≤ end) (fits : end ≤ leng
         zero-less : end - 0 ≡ end
         zero-less = omega arith
 
-    -- no text of the form, or this one
-    text-none : (form : Form) → form .text m ≡ none → end + 1 ≡ textPlace form s at end
+    -- no text, or this one
+    pub text-none : (text : GeneralName → Option (List ℕ)) → text m ≡ none → end + 1 ≡ textPlace text s at end
     unfolding textPlace placeText
-    text-none form e = rw (m-is, e)
+    text-none text e = rw (m-is, e)
 
-    text-some : (form : Form) (c : List ℕ) → form .text m ≡ some c → end - length c ≡ textPlace form s at end
+    pub text-some : (text : GeneralName → Option (List ℕ)) (c : List ℕ) → text m ≡ some c → end - length c ≡ textPlace text s at end
     unfolding textPlace placeText
-    text-some form c e = rw (m-is, e)
+    text-some text c e = rw (m-is, e)
 
     -- ---- an otherName
 
@@ -253,17 +253,18 @@ module _ (s : List ℕ) (at end : ℕ) (h : at + 2 ≤ end) (fits : end ≤ leng
     unfolding startOf
     start-within start e = some-of (wholeAt s at end) valid λ m p. omega (arith, e ∙ ap startOf (there m p))
 
-    pub dns-other : (getD s at 0 ≡ 0x82 → ⊥) → end + 1 ≡ textPlace dnsForm s at end
-    dns-other n = some-of (wholeAt s at end) valid λ m p. text-none m p dnsForm (tag-not-dns m (λ e. n (tag-is m p ∙ e)))
+    module _ (w : ℕ) where
+      pub tag-other-text : (getD s at 0 ≡ w → ⊥) → end + 1 ≡ textPlace (taggedText w) s at end
+      tag-other-text n = some-of (wholeAt s at end) valid λ m p. text-none m p (taggedText w) (tag-no-text w m (λ e. n (tag-is m p ∙ e)))
 
-    pub dns-here : getD s at 0 ≡ 0x82 → (r : ℕ) → r ≡ startOf (elementAt s at end) → r ≡ textPlace dnsForm s at end
-    unfolding startOf
-    dns-here e r r-is =
-        some-of (wholeAt s at end) valid λ m p.
-        r-is ∙ rw (there m p) (text-some m p dnsForm (contentOf m) (tag-dns m (sym (tag-is m p) ∙ e)))
+      pub tag-here : (w ≡ 0xA0 → ⊥) → getD s at 0 ≡ w → (r : ℕ) → r ≡ startOf (elementAt s at end) → r ≡ textPlace (taggedText w) s at end
+      unfolding startOf
+      tag-here k e r r-is =
+          some-of (wholeAt s at end) valid λ m p.
+          r-is ∙ rw (there m p) (text-some m p (taggedText w) (contentOf m) (tag-text w k m (sym (tag-is m p) ∙ e)))
 
-    pub srv-not-other : (getD s at 0 ≡ 0xA0 → ⊥) → end + 1 ≡ textPlace srvForm s at end
-    srv-not-other n = some-of (wholeAt s at end) valid λ m p. text-none m p srvForm (tag-not-other m (λ e. n (tag-is m p ∙ e)))
+    pub srv-not-other : (getD s at 0 ≡ 0xA0 → ⊥) → end + 1 ≡ textPlace srvText s at end
+    srv-not-other n = some-of (wholeAt s at end) valid λ m p. text-none m p srvText (tag-not-other m (λ e. n (tag-is m p ∙ e)))
 
     module _ (tag : getD s at 0 ≡ 0xA0) where
       with-other : {X : Type 0} → ((m : GeneralName) (p : wholeAt s at end ≡ some m) (o : List ℕ) (t : ℕ) (c : List ℕ) → m ≡ other o t c → X) → X
@@ -274,15 +275,15 @@ module _ (s : List ℕ) (at end : ℕ) (h : at + 2 ≤ end) (fits : end ≤ leng
 
       none-here : (same-oid : Bool) → same-oid ≡ false
           → (m : GeneralName) (p : wholeAt s at end ≡ some m) (o : List ℕ) (t : ℕ) (c : List ℕ) → m ≡ other o t c → same-oid ≡ same o srvOid
-          → end + 1 ≡ textPlace srvForm s at end
-      none-here b e m p o t c q f = text-none m p srvForm (not-srv m p o t c q (sym f ∙ e))
+          → end + 1 ≡ textPlace srvText s at end
+      none-here b e m p o t c q f = text-none m p srvText (not-srv m p o t c q (sym f ∙ e))
 
-      pub srv-few : end - at < 16 → end + 1 ≡ textPlace srvForm s at end
+      pub srv-few : end - at < 16 → end + 1 ≡ textPlace srvText s at end
       srv-few k = with-other λ m p o t c q. none-here (same o srvOid) (few m p o t c q k) m p o t c q refl
 
       -- in short form
       module _ (long : 16 ≤ end - at) (x : ℕ) (x-is : x ≡ getD s (at + 1) 0) (low : x < 128) where
-        pub srv-other-length : (getD s (at + 3) 0 ≡ 8 → ⊥) → end + 1 ≡ textPlace srvForm s at end
+        pub srv-other-length : (getD s (at + 3) 0 ≡ 8 → ⊥) → end + 1 ≡ textPlace srvText s at end
         srv-other-length n =
             with-other λ m p o t c q. none-here (same o srvOid) (oid-other m p o t c q long x x-is low n) m p o t c q refl
 
@@ -291,14 +292,14 @@ module _ (s : List ℕ) (at end : ℕ) (h : at + 2 ≤ end) (fits : end ≤ leng
           unfolding srvOidAt
           oid-is m p o t c q = r-is ∙ rw (oid-here m p o t c q long x x-is low eight)
 
-          pub srv-other-oid : r ≡ false → end + 1 ≡ textPlace srvForm s at end
+          pub srv-other-oid : r ≡ false → end + 1 ≡ textPlace srvText s at end
           srv-other-oid e = with-other λ m p o t c q. none-here r e m p o t c q (oid-is m p o t c q)
 
-          pub srv-here : r ≡ true → at + 16 ≡ textPlace srvForm s at end
+          pub srv-here : r ≡ true → at + 16 ≡ textPlace srvText s at end
           srv-here e =
               with-other λ m p o t c q.
               let f = sym (oid-is m p o t c q) ∙ e in
-              text-here m p o t c q long x x-is low f ∙ text-some m p srvForm c (is-srv m p o t c q f)
+              text-here m p o t c q long x x-is low f ∙ text-some m p srvText c (is-srv m p o t c q f)
 
       -- in any form
       module _ (start : ℕ) (start-is : start ≡ startOf (elementAt s at end)) (n : Name) (n-is : n ≡ otherAt s start end) where
@@ -313,25 +314,25 @@ module _ (s : List ℕ) (at end : ℕ) (h : at + 2 ≤ end) (fits : end ≤ leng
             let z : _≡_ {A = ℕ} 0 1 = cc in absurd (omega arith)
 
         module _ (k u v : ℕ) (shape : n ≡ Is k u v) where
-          pub long-srv : k ≡ 9 → v ≡ textPlace srvForm s at end
+          pub long-srv : k ≡ 9 → v ≡ textPlace srvText s at end
           long-srv e = with-other λ m p o t c q. go m p o t c q (same o srvOid) refl
             where
               go : (m : GeneralName) (p : wholeAt s at end ≡ some m) (o : List ℕ) (t : ℕ) (c : List ℕ) (q : m ≡ other o t c) (b : Bool) → same o srvOid ≡ b
-                  → v ≡ textPlace srvForm s at end
+                  → v ≡ textPlace srvText s at end
               go m p o t c q true f =
                   let g = found-so m p o t c q in
                   let w : v ≡ end - length c = cc in
-                  w ∙ text-some m p srvForm c (is-srv m p o t c q f)
+                  w ∙ text-some m p srvText c (is-srv m p o t c q f)
               go m p o t c q false f =
                   let g = rw f at (found-so m p o t c q) in
                   let w : k ≡ 0 = cc in
                   absurd (omega arith)
 
-          pub long-other : (k ≡ 9 → ⊥) → end + 1 ≡ textPlace srvForm s at end
+          pub long-other : (k ≡ 9 → ⊥) → end + 1 ≡ textPlace srvText s at end
           long-other e = with-other λ m p o t c q. go m p o t c q (same o srvOid) refl
             where
               go : (m : GeneralName) (p : wholeAt s at end ≡ some m) (o : List ℕ) (t : ℕ) (c : List ℕ) (q : m ≡ other o t c) (b : Bool) → same o srvOid ≡ b
-                  → end + 1 ≡ textPlace srvForm s at end
+                  → end + 1 ≡ textPlace srvText s at end
               go m p o t c q true f =
                   let g = rw f at (found-so m p o t c q) in
                   let w : k ≡ 9 = cc in
@@ -340,8 +341,8 @@ module _ (s : List ℕ) (at end : ℕ) (h : at + 2 ≤ end) (fits : end ≤ leng
 
   -- the form that a kind asks for
   module _ (kind r : ℕ) where
-    pub kind-srv : kind ≡ 9 → r ≡ textPlace srvForm s at end → r ≡ textPlace (formOf kind) s at end
+    pub kind-srv : kind ≡ 9 → r ≡ textPlace srvText s at end → r ≡ textPlace (formOf kind .text) s at end
     kind-srv e f = f ∙ rw (eq-eqb kind 9 e)
 
-    pub kind-dns : (kind ≡ 9 → ⊥) → r ≡ textPlace dnsForm s at end → r ≡ textPlace (formOf kind) s at end
+    pub kind-dns : (kind ≡ 9 → ⊥) → r ≡ textPlace (taggedText 0x82) s at end → r ≡ textPlace (formOf kind .text) s at end
     kind-dns e f = f ∙ rw (ne-eqb kind 9 e)

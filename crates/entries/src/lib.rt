@@ -15,7 +15,7 @@ ghost use mathlib.Core.Path.{_≡_};
 ghost use mathlib.Core.Bool.{true};
 ghost use lib.ListN.{length, getD};
 ghost use Rattle.rules.specs.San.{textTag, sealedTag};
-ghost use Rattle.rules.specs.Matching.{srvForm, dnsForm};
+ghost use Rattle.rules.specs.Matching.{srvText, taggedText};
 ghost use Rattle.reading.specs.Reader.{isSome};
 ghost use Rattle.entries.specs.Entries.{srvOidAt, cnOidAt, otherAt, nameAt, kindBy, attributeAt, subtreeAt, asciiAt, goodSrvAt, goodNameAt, goodSubtreeNameAt, goodSubtreeAt, formOf, wholeAt, textPlace};
 
@@ -366,7 +366,7 @@ fn other_text(s: &[u8], at: usize, end: usize) -> usize
     requires { ⌜ end ≤ length (now s) ⌝ }
     requires { ⌜ isSome (wholeAt (now s) at end) ≡ true ⌝ }
     requires { ⌜ getD (now s) at 0 ≡ 0xA0 ⌝ }
-    ensures { λ r. ⌜ r ≡ textPlace srvForm (now (s .entry)) at end ⌝ }
+    ensures { λ r. ⌜ r ≡ textPlace srvText (now (s .entry)) at end ⌝ }
 {
     let start = content_start(s, at, end);
     let n = other_name(s, start, end);
@@ -379,13 +379,14 @@ fn other_text(s: &[u8], at: usize, end: usize) -> usize
     end + 1
 }
 
-// Where the text of an SRVName starts, of a GeneralName that has been validated. Where its length is in short form, so are all lengths
-// in it, and each part has its own place: A0, the length, 06, 8, the OID, A0, the length, the tag, the length, the text.
-fn srv_text(s: &[u8], at: usize, end: usize) -> usize
+// Where the text of an SRVName starts, of the GeneralName that stands from `at` to `end` and has been validated; past the end where it is
+// another name. Where its length is in short form, so are all lengths in it, and each part has its own place: A0, the length, 06, 8, the
+// OID, A0, the length, the tag, the length, the text.
+pub fn srv_text(s: &[u8], at: usize, end: usize) -> usize
     requires { ⌜ at + 2 ≤ end ⌝ }
     requires { ⌜ end ≤ length (now s) ⌝ }
     requires { ⌜ isSome (wholeAt (now s) at end) ≡ true ⌝ }
-    ensures { λ r. ⌜ r ≡ textPlace srvForm (now (s .entry)) at end ⌝ }
+    ensures { λ r. ⌜ r ≡ textPlace srvText (now (s .entry)) at end ⌝ }
 {
     if s[at] != 0xA0 {
         return end + 1;
@@ -407,29 +408,29 @@ fn srv_text(s: &[u8], at: usize, end: usize) -> usize
     end + 1
 }
 
-// Where the text of a dNSName starts, of a GeneralName that has been validated.
-fn dns_text(s: &[u8], at: usize, end: usize) -> usize
+// The same of a name whose tag says what it is: 82 a dNSName, 86 a URI.
+pub fn tagged_text(s: &[u8], at: usize, end: usize, tag: u8) -> usize
     requires { ⌜ at + 2 ≤ end ⌝ }
     requires { ⌜ end ≤ length (now s) ⌝ }
     requires { ⌜ isSome (wholeAt (now s) at end) ≡ true ⌝ }
-    ensures { λ r. ⌜ r ≡ textPlace dnsForm (now (s .entry)) at end ⌝ }
+    requires { ⌜ (tag ≡ 0xA0 → ⊥) ⌝ }
+    ensures { λ r. ⌜ r ≡ textPlace (taggedText tag) (now (s .entry)) at end ⌝ }
 {
-    if s[at] != 0x82 {
+    if s[at] != tag {
         return end + 1;
     }
     content_start(s, at, end)
 }
 
-// Where the text of a name of one form starts (kind 9 an SRVName, else a dNSName), of the GeneralName that stands from `at` to `end` and
-// has been validated; past the end where it is of another form. That is told by its tag, and nothing is judged again.
+// The same of a name of one form of constraints: kind 9 an SRVName, else a dNSName. Nothing is judged again.
 pub fn name_text(s: &[u8], at: usize, end: usize, kind: usize) -> usize
     requires { ⌜ at + 2 ≤ end ⌝ }
     requires { ⌜ end ≤ length (now s) ⌝ }
     requires { ⌜ isSome (wholeAt (now s) at end) ≡ true ⌝ }
-    ensures { λ r. ⌜ r ≡ textPlace (formOf kind) (now (s .entry)) at end ⌝ }
+    ensures { λ r. ⌜ r ≡ textPlace (formOf kind .text) (now (s .entry)) at end ⌝ }
 {
     if kind == 9 {
         return srv_text(s, at, end);
     }
-    dns_text(s, at, end)
+    tagged_text(s, at, end, 0x82)
 }
