@@ -1,145 +1,135 @@
 -- What the functions on SAN entries return, by their own tests.
 use Prim.Native.Nat.{ℕ, _+_, _-_, _≤_, _<_}
-use mathlib.Core.Path.{_≡_, sym, ap, _∙_}
-use mathlib.Core.Bool.{true, false}
-use mathlib.Core.Option.{some}
-use mathlib.Core.List.{List, [], _∷_}
+use mathlib.Core.Path.{_≡_, refl, sym, ap, _∙_}
+use mathlib.Core.Bool.{Bool, true, false, _||_}
+use mathlib.Core.Option.{Option, none, some}
+use mathlib.Core.List.{List}
 use native.Mathlib.Omega.{arith}
 use lib.ListN.{length}
-use lib.Dec.{T, eqb}
-use borrow.Author.Tests.{eq-eqb, ne-eqb, eqb-true}
+use lib.Dec.{eqb, leb}
+use borrow.Author.Tests.{ne-eqb, le-leb, lt-leb}
 use Rattle.octets.proofs.Cases.{by-cases}
-use Rattle.rules.specs.Bytes.{same}
-use Rattle.rules.specs.San.{GeneralName, plain, other, srvOid, writeName, goodName, nameKind}
-use Rattle.reading.specs.Strings.{nameOf, readName}
-use Rattle.reading.specs.Answers.{then-some, when-some}
-use Rattle.reading.specs.Codecs.{rawName, nameC}
-use Rattle.der.specs.Places.{elementAt, found?}
-use Rattle.der.specs.Reads.{Read, found-read}
-use Rattle.der.specs.Runs.{itemsIn, Run, run-found, first-read, written}
-use Rattle.der.specs.declared.Element.{Element}
-use Rattle.der.specs.declared.Element.the-variants.{Found}
-use Rattle.entries.specs.Entries.{textTagOf, textOf, placeName, nameAt as shapeAt}
-use Rattle.entries.specs.declared.Name.{Name}
-use Rattle.entries.specs.declared.Name.the-variants.{Is, Malformed}
-use Rattle.presented.specs.Presented.{silentAt, shownAt, kindOf, kindFor, namedOf, nameAt, entryOf, entryAt}
-use Rattle.presented.specs.declared.Entry.{Entry}
-use Rattle.presented.specs.declared.Named.{Named}
+use Rattle.rules.specs.Bytes.{any, same}
+use Rattle.rules.specs.San.{GeneralName, plain, other, srvOid}
+use Rattle.rules.specs.Matching.{taggedText, srvText, entryText, blocksCn, if-some}
+use Rattle.reading.specs.Reader.{isSome}
+use Rattle.reading.specs.Strings.{readName, readSan}
+use Rattle.reading.specs.Answers.{some-of}
+use Rattle.der.specs.Places.{elementAt}
+use Rattle.der.specs.Runs.{itemsIn, no-items, Run, endOf, validated, namesOf, contentStart, san-filled}
+use Rattle.entries.specs.Entries.{wholeAt, placeText, textPlace}
+use Rattle.entries.proofs.Steps.{with-entry}
+use Rattle.presented.specs.Presented.{firstSet}
 
--- ---- a header
+-- ---- the text that an entry presents
 
-module _ (s : List ℕ) (at end : ℕ) (e : Element) (e-is : e ≡ elementAt s at end) where
-  -- an element is there, so the refusal is never met
-  pub header-never : found? (elementAt s at end) ≡ true → found? e ≡ false → (t b n : ℕ) → Read s at end t b n
-  header-never f q t b n =
-      let w : true ≡ false = sym f ∙ ap found? (sym e-is) ∙ q in
-      let z : _≡_ {A = ℕ} 0 1 = cc in absurd (omega arith)
+module _ (s : List ℕ) (at end kind r : ℕ) where
+  pub text-dns : kind ≡ 1 → r ≡ textPlace (taggedText 0x82) s at end → r ≡ textPlace (entryText kind) s at end
+  unfolding entryText
+  text-dns e f = rw e f
 
-  -- the header that the reader answers
-  pub header-is : end ≤ length s → at ≤ end → (t b n : ℕ) → e ≡ Found t b n → Read s at end t b n
-  header-is fits h t b n f = found-read s end fits at h t b n (sym e-is ∙ f)
+  pub text-srv : kind ≡ 2 → r ≡ textPlace srvText s at end → r ≡ textPlace (entryText kind) s at end
+  unfolding entryText
+  text-srv e f = rw e f
 
--- ---- a GeneralName
+  pub text-uri : kind ≡ 3 → r ≡ textPlace (taggedText 0x86) s at end → r ≡ textPlace (entryText kind) s at end
+  unfolding entryText
+  text-uri e f = rw e f
 
--- the kind of the references that a good name is held against, by its kind in the listing
-kind-for : (n : GeneralName) → T (goodName n) → kindFor (nameKind n) ≡ kindOf n
-unfolding kindFor nameKind kindOf goodName
-kind-for (plain t c) g =
-    by-cases (eqb t 0x81) (λ e. rw (eqb-true t 0x81 e)) λ e1.
-    by-cases (eqb t 0x82) (λ e. rw (eqb-true t 0x82 e)) λ e2.
-    by-cases (eqb t 0x86) (λ e. rw (eqb-true t 0x86 e)) λ e3.
-    by-cases (eqb t 0x87) (λ e. rw (eqb-true t 0x87 e)) λ e4.
-    by-cases (eqb t 0x88) (λ e. rw (eqb-true t 0x88 e)) λ e5.
-    by-cases (eqb t 0xA3) (λ e. rw (eqb-true t 0xA3 e)) λ e6.
-    by-cases (eqb t 0xA4) (λ e. rw (eqb-true t 0xA4 e)) λ e7.
-    by-cases (eqb t 0xA5) (λ e. rw (eqb-true t 0xA5 e)) λ e8.
-    absurd (rw (e1, e2, e3, e4, e5, e6, e7, e8) at g)
-kind-for (other o t c) g = by-cases (same o srvOid) (λ e. rw e) (λ e. rw e)
+-- to any other reference it presents none
+pub text-other : (s : List ℕ) (at end kind : ℕ) → isSome (wholeAt s at end) ≡ true → (kind ≡ 1 → ⊥) → (kind ≡ 2 → ⊥) → (kind ≡ 3 → ⊥)
+    → end + 1 ≡ textPlace (entryText kind) s at end
+unfolding entryText textPlace placeText
+text-other s at end kind valid d v u =
+    some-of (wholeAt s at end) valid λ m p. rw (p, ne-eqb kind 1 d, ne-eqb kind 2 v, ne-eqb kind 3 u)
 
--- the bytes of a good name are taken for that name
-shape-is : (n : GeneralName) → T (goodName n) → nameOf (rawName n) ≡ some n
-unfolding readName
-shape-is n g =
-    then-some (nameOf (rawName n)) _ (nameC .complete n g) λ m e f.
-    when-some (goodName m) _ f λ h k.
-    let q : m ≡ n = cc in
-    rw q at e
+-- ---- whether it keeps CN references from counting
 
-module _ (s : List ℕ) (at : ℕ) (h : at < length s) (run : Run readName s at (length s)) where
-  -- an element stands where a readable run of names goes on
-  pub name-found : found? (elementAt s at (length s)) ≡ true
-  name-found = run-found readName s at (length s) run h
+-- a name blocks the CN just where it presents a text to references of some kind
+blocks-is : (m : GeneralName) → blocksCn m ≡ isSome (entryText 1 m) || isSome (entryText 3 m) || isSome (entryText 2 m)
+unfolding blocksCn entryText taggedText srvText
+blocks-is (plain t c) =
+    by-cases (eqb t 0x82) (λ e. rw e) (λ e. by-cases (eqb t 0x86) (λ f. rw (e, f)) (λ f. rw (e, f)))
+blocks-is (other o t c) = by-cases (same o srvOid) (λ e. rw e) (λ e. rw e)
 
-  module _ (t b n : ℕ) (k : Read s at (length s) t b n) (m : Name) (m-is : m ≡ shapeAt s t b n) where
-    -- the GeneralName that is read, and its places
-    with-name : {X : Type 0} → ((nm : GeneralName) (l : List GeneralName) → itemsIn readName s at (length s) ≡ nm ∷ l → T (goodName nm)
-        → m ≡ Is (nameKind nm) (textTagOf nm) (n - length (textOf nm)) → n ≡ at + length (writeName nm) → X) → X
-    unfolding writeName shapeAt placeName
-    with-name c =
-        let w = first-read readName s at (length s) run h t b n k in
-        let o = written nameC s at (length s) t b n (omega arith) w in
-        c (w .item) _ (w .list) (o .good-is) (m-is ∙ rw (o .raw-is, shape-is _ (o .good-is))) (o .stands .next-is)
-
-    -- a good name is never malformed
-    pub name-never : m ≡ Malformed → (r : Named) → r ≡ nameAt s at
-    name-never e r = with-name λ nm l i g q x. let z : _≡_ {A = ℕ} 0 1 = cc in absurd (omega arith)
-
-    -- the name, by its kind in the listing and where its text starts
-    pub name-is : (kind tag text : ℕ) → m ≡ Is kind tag text → (held : ℕ) → held ≡ kindFor kind → record { kind = held; text = text; next = n } ≡ nameAt s at
-    unfolding nameAt namedOf
-    name-is kind tag text e held held-is =
-        with-name λ nm l i g q x.
-        let y : kind ≡ nameKind nm = cc in
-        let u : held ≡ kindOf nm = held-is ∙ ap kindFor y ∙ kind-for nm g in
-        let v : text ≡ n - length (textOf nm) = cc in
-        rw (i, ← x) (λ j. record { kind = u j; text = v j; next = n })
-
--- the kind that is held against, by the code's own tests
-module _ (kind : ℕ) where
-  -- a dNSName
-  pub for-dns : kind ≡ 2 → 1 ≡ kindFor kind
-  unfolding kindFor
-  for-dns e = rw e
-
-  -- a uniformResourceIdentifier
-  pub for-uri : kind ≡ 6 → 3 ≡ kindFor kind
-  unfolding kindFor
-  for-uri e = rw e
-
-  -- an SRVName
-  pub for-srv : kind ≡ 9 → 2 ≡ kindFor kind
-  unfolding kindFor
-  for-srv e = rw e
-
-  -- any other name: held against no reference
-  pub for-none : (kind ≡ 2 → ⊥) → (kind ≡ 6 → ⊥) → (kind ≡ 9 → ⊥) → 0 ≡ kindFor kind
-  unfolding kindFor
-  for-none e f g = rw (ne-eqb kind 2 e, ne-eqb kind 6 f, ne-eqb kind 9 g)
-
--- ---- an entry
-
-module _ (s : List ℕ) (at : ℕ) (m : Named) (m-is : m ≡ nameAt s at) where
-  -- the text ends where the name does
-  pub name-bounds : (at ≤ m .next) × (m .text ≤ m .next)
-  unfolding nameAt namedOf
-  name-bounds = rw m-is (go (itemsIn readName s at (length s)))
+module _ (s : List ℕ) (at end : ℕ) (valid : isSome (wholeAt s at end) ≡ true) where
+  -- its text starts before its end just where there is one
+  presents-is : (kind r : ℕ) → r ≡ textPlace (entryText kind) s at end → (m : GeneralName) → wholeAt s at end ≡ some m → leb r end ≡ isSome (entryText kind m)
+  unfolding textPlace placeText
+  presents-is kind r r-is m p = go (entryText kind m) refl
     where
-      go : (l : List GeneralName) → (at ≤ namedOf at l .next) × (namedOf at l .text ≤ namedOf at l .next)
-      go [] = (omega arith, omega arith)
-      go (nm ∷ l) = (omega arith, omega arith)
+      go : (o : Option (List ℕ)) → entryText kind m ≡ o → leb r end ≡ isSome o
+      go none q = let e : r ≡ end + 1 = rw (p, q) at r-is in lt-leb r end (omega arith)
+      go (some c) q = let e : r ≡ end - length c = rw (p, q) at r-is in le-leb r end (omega arith)
 
-  module _ (kind : ℕ) (r : Entry) where
-    -- a name that is held against nothing
-    pub entry-none : m .kind ≡ 0 → r ≡ silentAt (m .next) → r ≡ entryAt kind s at
-    unfolding entryAt entryOf
-    entry-none z e = e ∙ rw (← m-is, eq-eqb (m .kind) 0 z)
+  module _ (d : ℕ) (d-is : d ≡ textPlace (entryText 1) s at end) where
+    pub blocks-dns : d ≤ end → true ≡ if-some (wholeAt s at end) blocksCn
+    blocks-dns h =
+        some-of (wholeAt s at end) valid λ m p.
+        let e = sym (presents-is 1 d d-is m p) ∙ le-leb d end h in
+        rw (p, blocks-is m, e)
 
-    -- a name of the references' kind
-    pub entry-kind : (m .kind ≡ 0 → ⊥) → m .kind ≡ kind → r ≡ shownAt at (m .text) (m .next) → r ≡ entryAt kind s at
-    unfolding entryAt entryOf
-    entry-kind z k e = e ∙ rw (← m-is, ne-eqb (m .kind) 0 z, eq-eqb (m .kind) kind k)
+    module _ (u : ℕ) (u-is : u ≡ textPlace (entryText 3) s at end) where
+      pub blocks-uri : u ≤ end → true ≡ if-some (wholeAt s at end) blocksCn
+      blocks-uri h =
+          some-of (wholeAt s at end) valid λ m p.
+          let e = sym (presents-is 3 u u-is m p) ∙ le-leb u end h in
+          rw (p, blocks-is m, e) (by-cases (isSome (entryText 1 m)) (λ f. rw f) (λ f. rw f))
 
-    -- a name of another kind
-    pub entry-other : (m .kind ≡ 0 → ⊥) → (m .kind ≡ kind → ⊥) → r ≡ silentAt (m .next) → r ≡ entryAt kind s at
-    unfolding entryAt entryOf
-    entry-other z k e = e ∙ rw (← m-is, ne-eqb (m .kind) 0 z, ne-eqb (m .kind) kind k)
+      pub blocks-srv : end < d → end < u → (v : ℕ) → v ≡ textPlace (entryText 2) s at end → leb v end ≡ if-some (wholeAt s at end) blocksCn
+      blocks-srv h k v v-is =
+          some-of (wholeAt s at end) valid λ m p.
+          let e = sym (presents-is 1 d d-is m p) ∙ lt-leb d end h in
+          let f = sym (presents-is 3 u u-is m p) ∙ lt-leb u end k in
+          presents-is 2 v v-is m p ∙ rw (p, blocks-is m, e, f)
+
+-- ---- whether any entry does
+
+-- the entries of a SAN, from the first on
+pub san-run : (s : List ℕ) → validated readSan s ≡ true → (at : ℕ) → at ≡ contentStart s → (end : ℕ) → end ≡ length s → Run readName s at end
+san-run s valid at at-is end end-is = rw (at-is, end-is) (san-filled s valid .elements)
+
+-- what is left of the SAN, from `at` on, blocks a CN where the whole does
+unfoldable pub BlocksLeft : List ℕ → ℕ → ℕ → Type 0
+BlocksLeft s at end = any blocksCn (itemsIn readName s at end) ≡ any blocksCn (namesOf readSan s)
+
+-- before the first entry
+pub blocks-begin : (s : List ℕ) → validated readSan s ≡ true → (at : ℕ) → at ≡ contentStart s → (end : ℕ) → end ≡ length s → BlocksLeft s at end
+unfolding BlocksLeft
+blocks-begin s valid at at-is end end-is = rw (at-is, end-is, san-filled s valid .list)
+
+module _ (s : List ℕ) (at end : ℕ) (inv : BlocksLeft s at end) (run : Run readName s at end) where
+  -- no entry is left
+  pub blocks-end : end ≤ at → false ≡ any blocksCn (namesOf readSan s)
+  unfolding BlocksLeft
+  blocks-end hi =
+      let q : at ≡ end = omega (arith, run .order) in
+      rw (q, no-items readName s end) at inv
+
+  module _ (more : at < end) (n : ℕ) (n-is : n ≡ endOf (elementAt s at end)) (q : Bool) (q-is : q ≡ if-some (wholeAt s at n) blocksCn) where
+    -- an entry that blocks the CN
+    pub blocks-here : q ≡ true → true ≡ any blocksCn (namesOf readSan s)
+    unfolding BlocksLeft
+    blocks-here e =
+        with-entry s at end run more n n-is λ m p i.
+        let f : blocksCn m ≡ true = sym (rw p at q-is) ∙ e in
+        rw (i, f) at inv
+
+    -- one that does not
+    pub blocks-next : q ≡ false → BlocksLeft s n end
+    unfolding BlocksLeft
+    blocks-next e =
+        with-entry s at end run more n n-is λ m p i.
+        let f : blocksCn m ≡ false = sym (rw p at q-is) ∙ e in
+        rw (i, f) at inv
+
+-- ---- where the sets start
+
+module _ (san subject : List ℕ) (b : Bool) (b-is : b ≡ any blocksCn (namesOf readSan san)) where
+  pub sets-blocked : b ≡ true → length subject ≡ firstSet san subject
+  unfolding firstSet
+  sets-blocked e = rw (sym b-is ∙ e)
+
+  pub sets-open : b ≡ false → (r : ℕ) → r ≡ contentStart subject → r ≡ firstSet san subject
+  unfolding firstSet
+  sets-open e r f = f ∙ rw (sym b-is ∙ e)

@@ -4,9 +4,8 @@ use Prim.Native.Nat.{ℕ, _-_}
 use mathlib.Core.Bool.{true, false}
 use Rattle.presented.specs.Presented.{silentAt, shownAt}
 use Rattle.entries.proofs.Rules.{no-name}
-use Rattle.presented.proofs.Entries.{header-never, header-is, name-found, name-never, name-is, for-dns, for-uri, for-srv, for-none, name-bounds, entry-none, entry-kind, entry-other}
-use Rattle.presented.proofs.Sets.{attribute-found, attribute-never, text-ends, attribute-cn, attribute-other, cn-first, cn-more, cn-none, set-found, set-run, set-begin, set-less, set-again, set-step, set-sole, set-none}
-use Rattle.presented.proofs.Strings.{san-run, blocks-begin, name-less, name-again, blocks-here, blocks-next, blocks-end, first-blocked, first-cn, first-san, cn-short, cn-run, cn-presented, san-short, san-entries, san-presented}
+use Rattle.presented.proofs.Entries.{text-dns, text-srv, text-uri, text-other, blocks-dns, blocks-uri, blocks-srv, san-run, blocks-begin, blocks-end, blocks-here, blocks-next, sets-blocked, sets-open}
+use Rattle.presented.proofs.Sets.{header-never, header-is, attribute-found, attribute-never, text-ends, attribute-cn, attribute-other, cn-first, cn-more, cn-none, set-found, set-run, set-begin, set-less, set-again, set-step, set-sole, set-none}
 use Rattle.der.specs.Runs.{start-found, start-none}
 use Rattle.der.proofs.Elements.{not-found}
 
@@ -25,17 +24,6 @@ pub ruleset laws = (
   shown-is,
   header-never,
   header-is,
-  name-found,
-  name-never,
-  name-is,
-  for-dns,
-  for-uri,
-  for-srv,
-  for-none,
-  name-bounds,
-  entry-none,
-  entry-kind,
-  entry-other,
   attribute-found,
   attribute-never,
   text-ends,
@@ -52,22 +40,20 @@ pub ruleset laws = (
   set-step,
   set-sole,
   set-none,
-  start-found,
-  start-none,
+  text-dns,
+  text-srv,
+  text-uri,
+  text-other,
+  blocks-dns,
+  blocks-uri,
+  blocks-srv,
   san-run,
   blocks-begin,
-  name-less,
-  name-again,
+  blocks-end,
   blocks-here,
   blocks-next,
-  blocks-end,
-  first-blocked,
-  first-cn,
-  first-san,
-  cn-short,
-  cn-run,
-  cn-presented,
-  san-short,
-  san-entries,
-  san-presented,
+  sets-blocked,
+  sets-open,
+  start-found,
+  start-none,
 )

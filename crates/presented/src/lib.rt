@@ -1,36 +1,39 @@
-// The identifiers that a certificate presents: one step for each SAN entry, or for each RDN set of the subject.
-// The strings were found readable before, so nothing is judged again here.
+// The identifiers that a certificate presents: the text of a SAN entry, and what an RDN set of the subject presents. The strings were
+// found readable before, so nothing is judged again here.
 use der::Element;
+use der::element_end;
 use der::read_element;
 use entries::Name;
 use entries::attribute;
-use entries::name_shape;
-use rules::CN;
+use entries::srv_text;
+use entries::tagged_text;
 use rules::DNS;
 use rules::Place;
 use rules::SRV;
 use rules::URI;
-ghost use Prim.Native.Nat.{_≤_, _<_};
+ghost use Prim.Native.Nat.{_+_, _≤_, _<_};
 ghost use mathlib.Core.Path.{_≡_};
 ghost use mathlib.Core.Bool.{true};
 ghost use lib.ListN.{length};
 ghost use Rattle.rules.specs.Bytes.{any};
-ghost use Rattle.rules.specs.Matching.{blocksCn};
-ghost use Rattle.reading.specs.Strings.{readName, readSan, readAttribute, readSet};
+ghost use Rattle.rules.specs.Matching.{entryText, blocksCn, if-some};
+ghost use Rattle.reading.specs.Reader.{isSome};
+ghost use Rattle.reading.specs.Strings.{readSan, readAttribute, readSet};
 ghost use Rattle.der.specs.Places.{elementAt, found?};
 ghost use Rattle.der.specs.Reads.{Read};
 ghost use Rattle.der.specs.Runs.{Run, validated, namesOf, contentStart};
-ghost use Rattle.presented.specs.Presented.{RunAt, stringOf, silentAt, shownAt, kindFor, nameAt, entryAt, attributeAt, withCn, setAt, presentedAt, firstName};
+ghost use Rattle.entries.specs.Entries.{wholeAt, textPlace};
+ghost use Rattle.presented.specs.Presented.{silentAt, shownAt, attributeAt, withCn, setAt, firstSet};
 
-// A SAN entry or an RDN set, as references of a kind meet it.
+// An RDN set, as CN references meet it.
 pub struct Entry {
     // Whether it presents a text to them.
     pub presents: bool,
-    // Where its DER element lies: the GeneralName, or the attribute's SEQUENCE.
+    // Where its DER element lies: the attribute's SEQUENCE.
     pub element: Place,
     // Where its text lies.
     pub text: Place,
-    // Where the next entry or set starts.
+    // Where the next set starts.
     pub next: usize,
 }
 
@@ -38,13 +41,6 @@ pub struct Entry {
 struct Header {
     tag: u8,
     start: usize,
-    next: usize,
-}
-
-// A GeneralName: the kind of the references that it is held against, 0 for none; where its text starts; where the next starts.
-struct Named {
-    kind: u8,
-    text: usize,
     next: usize,
 }
 
@@ -121,65 +117,6 @@ fn header_at(s: &[u8], at: usize, end: usize) -> Header
     }
 }
 
-// The kind of the references that a name is held against, by its kind in the listing: a dNSName, a URI, an SRVName; 0 for none.
-fn kind_for(kind: usize) -> u8
-    ensures { λ r. ⌜ r ≡ kindFor kind ⌝ }
-{
-    if kind == 2 {
-        return DNS;
-    }
-    if kind == 6 {
-        return URI;
-    }
-    if kind == 9 {
-        return SRV;
-    }
-    0
-}
-
-// The GeneralName at a place of the SAN.
-fn name_at(san: &[u8], at: usize) -> Named
-    requires { ⌜ at < length (now san) ⌝ }
-    requires { ⌜ Run readName (now san) at (length (now san)) ⌝ }
-    ensures { λ r. ⌜ r ≡ nameAt (now (san .entry)) at ⌝ }
-{
-    let end = san.len();
-    let e = header_at(san, at, end);
-    let next = e.next;
-    let n = name_shape(san, e.tag, e.start, next);
-    let Name::Is { kind, tag: _, text } = n else {
-        return Named {
-            kind: 0,
-            text: next,
-            next: next,
-        };
-    };
-    let held = kind_for(kind);
-    Named {
-        kind: held,
-        text: text,
-        next: next,
-    }
-}
-
-// "A reference matches only its own kind."
-fn entry_at(san: &[u8], at: usize, kind: u8) -> Entry
-    requires { ⌜ at < length (now san) ⌝ }
-    requires { ⌜ Run readName (now san) at (length (now san)) ⌝ }
-    ensures { λ r. ⌜ r ≡ entryAt kind (now (san .entry)) at ⌝ }
-{
-    let n = name_at(san, at);
-    let next = n.next;
-    if n.kind == 0 {
-        return silent(next);
-    }
-    if n.kind == kind {
-        let text = n.text;
-        return shown(at, text, next);
-    }
-    silent(next)
-}
-
 // The attribute at a place of a set that ends at `end`: kind 10 in the listing is a CN with tag 0C, 13 or 16, 11 another CN.
 fn attribute_at(s: &[u8], at: usize, end: usize) -> Typed
     requires { ⌜ at < end ⌝ }
@@ -233,7 +170,7 @@ fn with_cn(c: Sole, a: Typed) -> Sole
 }
 
 // "CN-ID: .. the value of an attribute of type CN, tag 0C, 13 or 16, in a set that has exactly one CN attribute, whatever the tags."
-fn set_at(subject: &[u8], at: usize) -> Entry
+pub fn set_at(subject: &[u8], at: usize) -> Entry
     requires { ⌜ at < length (now subject) ⌝ }
     requires { ⌜ Run readSet (now subject) at (length (now subject)) ⌝ }
     ensures { λ r. ⌜ r ≡ setAt (now (subject .entry)) at ⌝ }
@@ -265,20 +202,8 @@ fn set_at(subject: &[u8], at: usize) -> Entry
     silent(next)
 }
 
-// The SAN entry at a place, or for a CN reference the set of the subject there.
-pub fn presented_at(san: &[u8], subject: &[u8], kind: u8, at: usize) -> Entry
-    requires { ⌜ at < length (stringOf kind (now san) (now subject)) ⌝ }
-    requires { ⌜ RunAt kind (now san) (now subject) at ⌝ }
-    ensures { λ r. ⌜ r ≡ presentedAt kind (now (san .entry)) (now (subject .entry)) at ⌝ }
-{
-    if kind == CN {
-        return set_at(subject, at);
-    }
-    entry_at(san, at, kind)
-}
-
-// Where the content of a string's own element starts; 0 in an absent string.
-fn content_start(s: &[u8]) -> usize
+// Where the first entry or set of a validated string stands; 0 in an absent string.
+pub fn names_start(s: &[u8]) -> usize
     ensures { λ r. ⌜ r ≡ contentStart (now (s .entry)) ⌝ }
 {
     let end = s.len();
@@ -294,33 +219,72 @@ fn content_start(s: &[u8]) -> usize
     start
 }
 
-// Where what a reference of a kind is held against starts. "CN references count only if the SAN has no entry tagged 82 or 86
-// and no SRVName": if one blocks them, at the subject's end.
-pub fn first_name(san: &[u8], subject: &[u8], kind: u8, blocked: bool) -> usize
-    ensures { λ r. ⌜ r ≡ firstName kind blocked (now (san .entry)) (now (subject .entry)) ⌝ }
+// Where the text starts that the SAN entry from `at` to `end` presents to references of a kind; past the end where it presents none. "A
+// reference matches only its own kind."
+pub fn entry_text(san: &[u8], at: usize, end: usize, kind: u8) -> usize
+    requires { ⌜ at + 2 ≤ end ⌝ }
+    requires { ⌜ end ≤ length (now san) ⌝ }
+    requires { ⌜ isSome (wholeAt (now san) at end) ≡ true ⌝ }
+    ensures { λ r. ⌜ r ≡ textPlace (entryText kind) (now (san .entry)) at end ⌝ }
 {
-    if kind == CN {
-        if blocked {
-            return subject.len();
-        }
-        return content_start(subject);
+    if kind == DNS {
+        return tagged_text(san, at, end, 0x82);
     }
-    content_start(san)
+    if kind == SRV {
+        return srv_text(san, at, end);
+    }
+    if kind == URI {
+        return tagged_text(san, at, end, 0x86);
+    }
+    end + 1
 }
 
-// Whether an entry of the SAN keeps CN references from counting, "readable as a name or not".
-pub fn blocks_cn(san: &[u8]) -> bool
+// Whether an entry of the SAN keeps CN references from counting: it is presented to references of some kind, "readable as a name or not".
+fn blocks(san: &[u8], at: usize, end: usize) -> bool
+    requires { ⌜ at + 2 ≤ end ⌝ }
+    requires { ⌜ end ≤ length (now san) ⌝ }
+    requires { ⌜ isSome (wholeAt (now san) at end) ≡ true ⌝ }
+    ensures { λ r. ⌜ r ≡ if-some (wholeAt (now (san .entry)) at end) blocksCn ⌝ }
+{
+    let dns = entry_text(san, at, end, DNS);
+    if dns <= end {
+        return true;
+    }
+    let uri = entry_text(san, at, end, URI);
+    if uri <= end {
+        return true;
+    }
+    let srv = entry_text(san, at, end, SRV);
+    srv <= end
+}
+
+// Whether any does.
+fn blocks_cn(san: &[u8]) -> bool
     requires { ⌜ validated readSan (now san) ≡ true ⌝ }
     ensures { λ r. ⌜ r ≡ any blocksCn (namesOf readSan (now (san .entry))) ⌝ }
 {
     let end = san.len();
-    let mut at = content_start(san);
+    let mut at = names_start(san);
     while at < end {
-        let n = name_at(san, at);
-        if n.kind != 0 {
+        let next = element_end(san, at, end);
+        let blocked = blocks(san, at, next);
+        if blocked {
             return true;
         }
-        at = n.next;
+        at = next;
     }
     false
+}
+
+// Where the sets start that a CN reference is held against. "CN references count only if the SAN has no entry tagged 82 or 86 and no
+// SRVName": if one blocks them, at the subject's end.
+pub fn first_set(san: &[u8], subject: &[u8]) -> usize
+    requires { ⌜ validated readSan (now san) ≡ true ⌝ }
+    ensures { λ r. ⌜ r ≡ firstSet (now (san .entry)) (now (subject .entry)) ⌝ }
+{
+    let blocked = blocks_cn(san);
+    if blocked {
+        return subject.len();
+    }
+    names_start(subject)
 }
