@@ -1,24 +1,25 @@
--- The reference at an index, by its bytes.
+-- The reference at an index, by its bytes, and a text that is held against it.
 use Prim.Native.Nat.{ℕ, zero, _+_, _-_, _*_, _/_, _%_, _≤_, _<_}
 use mathlib.Core.Path.{_≡_, sym, ap, _∙_}
-use mathlib.Core.Bool.{Bool, true, _&&_, _||_}
+use mathlib.Core.Bool.{Bool, true, false, _&&_, _||_, true≢false}
 use mathlib.Core.List.{List}
 use native.Mathlib.Omega.{arith}
 use native.Mathlib.Nat.{add-zero}
 use lib.ListN.{length, getD, take, drop, length-take}
 use lib.Seq.{drop-drop, take-take}
 use lib.Dec.{T, eqb, leb, leb→le}
-use borrow.Author.Tests.{ne-eqb}
-use Rattle.octets.proofs.Cases.{by-cases}
+use borrow.Author.Tests.{ne-eqb, le-leb, lt-leb}
+use Rattle.rules.proofs.Cases.{by-cases, is-true, and-left, and-right}
 use Rattle.rules.specs.Bytes.{part, some?, all}
 use Rattle.rules.specs.Numbers.{recordSize, serviceLengthAt, domainLengthAt, serviceAt, serviceSize, domainAt, domainSize}
-use Rattle.rules.specs.Names.{domain, dnsMatches, srvMatches, uriMatches}
-use Rattle.rules.specs.Records.{referenceOf, filled, goodService, goodReference, goodRecord, recordsOf, goodRecords}
+use Rattle.rules.specs.Names.{domain, twoLabels, dnsMatches, srvMatches, uriMatches}
+use Rattle.rules.specs.Records.{Reference, reference, referenceOf, filled, goodService, goodReference, goodRecord, recordsOf, goodRecords}
 use Rattle.rules.specs.Matching.{textMatches}
 use Rattle.records.proofs.Split.{count-is, record-at, each-good, byte-at}
 use Rattle.reading.specs.Answers.{and-parts}
 use Rattle.der.specs.Reads.{take-of-drop}
-use Rattle.pairs.specs.Pairs.{referenceAt}
+use Rattle.presented.specs.declared.Entry.{Entry}
+use Rattle.pairs.specs.Pairs.{referenceAt, textAt, entryMatches}
 
 module _ (b : List ℕ) (i : ℕ) (h : i < length b / recordSize) where
   abbrev rec : List ℕ
@@ -97,41 +98,67 @@ module _ (b : List ℕ) (i : ℕ) (h : i < length b / recordSize) where
           let m : i * recordSize + domainAt + n - (i * recordSize + domainAt) ≡ n = omega arith in
           rw (m, ← domain-long) (sym (within domainAt n (omega (arith, domain-long, fits domainAt domainSize (getD rec domainLengthAt 0) (parts .1 .0)))))
 
-    -- no other kind is good
-    dns-or-cn : (referenceAt b i .kind ≡ 2 → ⊥) → (referenceAt b i .kind ≡ 3 → ⊥) → eqb (referenceAt b i .kind) 1 || eqb (referenceAt b i .kind) 4 ≡ true
-    unfolding goodReference goodService referenceAt
-    dns-or-cn e f =
-        let k = referenceOf rec .kind in
-        let v = and-parts (goodService k (referenceOf rec .service) && domain (referenceOf rec .domain)) _ (parts .1 .1) .0 in
-        let w = and-parts (goodService k (referenceOf rec .service)) _ v .0 in
-        by-cases (eqb k 1 || eqb k 4) (λ q. q) (λ q. absurd (rw (q, ne-eqb k 2 e, ne-eqb k 3 f) at w))
+    -- what is taken of a reference is the reference, and it is good
+    module _ (kind : ℕ) (kind-is : kind ≡ referenceAt b i .kind) (v : List ℕ) (v-is : v ≡ referenceAt b i .service)
+        (d : List ℕ) (d-is : d ≡ referenceAt b i .domain) where
+      pub reference-is : referenceAt b i ≡ reference kind v d
+      reference-is = sym (λ k. record { kind = kind-is k; service = v-is k; domain = d-is k })
 
-  -- ---- a text held against the reference
+      pub reference-good : goodReference (reference kind v d) ≡ true
+      unfolding referenceAt
+      reference-good = ap goodReference (sym reference-is) ∙ is-true (goodReference (referenceOf rec)) (parts .1 .1)
 
-  module _ (s : List ℕ) (start len : ℕ) where
-    text-is : take (start + len - start) (drop start s) ≡ part s start len
-    unfolding part
-    text-is = let m : start + len - start ≡ len = omega arith in rw m
+-- ---- a text held against a good reference
 
-    module _ (kind : ℕ) (kind-is : kind ≡ referenceAt b i .kind) (d : List ℕ) (d-is : d ≡ referenceAt b i .domain) (r : Bool) where
-      -- an SRV reference
-      pub text-srv : kind ≡ 2 → (v : List ℕ) → v ≡ referenceAt b i .service → r ≡ srvMatches v d (take (start + len - start) (drop start s))
-          → r ≡ textMatches (referenceAt b i) (part s start len)
-      unfolding textMatches
-      text-srv e v v-is r-is =
-          let k : referenceAt b i .kind ≡ 2 = sym kind-is ∙ e in
-          r-is ∙ rw (k, text-is, v-is, d-is)
+module _ (kind : ℕ) (v d : List ℕ) (g : goodReference (reference kind v d) ≡ true) where
+  service-good : goodService kind v ≡ true
+  unfolding goodReference
+  service-good = and-left _ (domain d) (and-left (goodService kind v && domain d) (twoLabels d) g)
 
-      -- a URI reference
-      pub text-uri : kind ≡ 3 → (v : List ℕ) → v ≡ referenceAt b i .service → r ≡ uriMatches v d (take (start + len - start) (drop start s))
-          → r ≡ textMatches (referenceAt b i) (part s start len)
-      unfolding textMatches
-      text-uri e v v-is r-is =
-          let k : referenceAt b i .kind ≡ 3 = sym kind-is ∙ e in
-          r-is ∙ rw (k, text-is, v-is, d-is)
+  pub domain-good : domain d ≡ true
+  unfolding goodReference
+  domain-good = and-right (goodService kind v) _ (and-left (goodService kind v && domain d) (twoLabels d) g)
 
-      -- a DNS or a CN reference
-      pub text-dns : goodRecords b ≡ true → (kind ≡ 2 → ⊥) → (kind ≡ 3 → ⊥) → r ≡ dnsMatches d (take (start + len - start) (drop start s))
-          → r ≡ textMatches (referenceAt b i) (part s start len)
-      unfolding textMatches
-      text-dns g e f r-is = r-is ∙ rw (dns-or-cn g (λ q. e (kind-is ∙ q)) (λ q. f (kind-is ∙ q)), text-is, d-is)
+  module _ (text : List ℕ) (r : Bool) where
+    -- an SRV reference
+    pub text-srv : kind ≡ 2 → r ≡ srvMatches v d text → r ≡ textMatches (reference kind v d) text
+    unfolding textMatches
+    text-srv e r-is = r-is ∙ rw e
+
+    -- a URI reference
+    pub text-uri : kind ≡ 3 → r ≡ uriMatches v d text → r ≡ textMatches (reference kind v d) text
+    unfolding textMatches
+    text-uri e r-is = r-is ∙ rw e
+
+    -- a DNS or a CN reference: no other kind is good
+    pub text-dns : (kind ≡ 2 → ⊥) → (kind ≡ 3 → ⊥) → r ≡ dnsMatches d text → r ≡ textMatches (reference kind v d) text
+    unfolding textMatches goodService
+    text-dns e f r-is =
+        by-cases (eqb kind 1 || eqb kind 4) (λ q. r-is ∙ rw q)
+        (λ q. absurd (true≢false (sym service-good ∙ rw (q, ne-eqb kind 2 e, ne-eqb kind 3 f))))
+
+-- ---- a text by its place
+
+module _ (r : Reference) (s : List ℕ) where
+  module _ (text end : ℕ) where
+    -- there is none
+    pub text-past : end < text → false ≡ textAt r s text end
+    unfolding textAt
+    text-past h = rw (lt-leb text end h)
+
+    pub text-there : text ≤ end → (q : Bool) → q ≡ textMatches r (take (end - text) (drop text s)) → q ≡ textAt r s text end
+    unfolding textAt part
+    text-there h q q-is = q-is ∙ rw (le-leb text end h)
+
+  module _ (e : Entry) where
+    -- a set that presents none
+    pub set-silent : e .presents ≡ false → false ≡ entryMatches r s e
+    unfolding entryMatches
+    set-silent f = rw f
+
+    pub set-text : e .presents ≡ true → (q : Bool)
+        → q ≡ textMatches r (take (e .text .start + e .text .length - e .text .start) (drop (e .text .start) s)) → q ≡ entryMatches r s e
+    unfolding entryMatches part
+    set-text f q q-is =
+        let m : e .text .start + e .text .length - e .text .start ≡ e .text .length = omega arith in
+        q-is ∙ rw (f, m)

@@ -1,13 +1,16 @@
 // The first pair of a reference and a presented identifier that match: lowest reference, then lowest name.
+use der::element_end;
 use octets::wide;
 use presented::Entry;
-use presented::blocks_cn;
-use presented::first_name;
-use presented::presented_at;
+use presented::entry_text;
+use presented::first_set;
+use presented::names_start;
+use presented::set_at;
 use rules::CN;
 use rules::DOMAIN_AT;
 use rules::DOMAIN_LENGTH_AT;
 use rules::Outcome;
+use rules::Place;
 use rules::RECORD_SIZE;
 use rules::SERVICE_AT;
 use rules::SERVICE_LENGTH_AT;
@@ -16,17 +19,24 @@ use rules::URI;
 use rules::Witness;
 ghost use Prim.Native.Nat.{_+_, _≤_, _<_, _/_};
 ghost use mathlib.Core.Path.{_≡_};
-ghost use mathlib.Core.Bool.{true};
+ghost use mathlib.Core.Bool.{true, false};
 ghost use lib.ListN.{length};
-ghost use Rattle.rules.specs.Bytes.{part};
-ghost use Rattle.rules.specs.Numbers.{recordSize};
-ghost use Rattle.rules.specs.Records.{goodRecords, referencesOf};
-ghost use Rattle.rules.specs.Matching.{textMatches, firstPair};
+ghost use Rattle.rules.specs.Bytes.{before};
+ghost use Rattle.rules.specs.Names.{dot, is};
+ghost use Rattle.rules.specs.Numbers.{recordSize, cnKind};
+ghost use Rattle.rules.specs.Records.{reference, goodReference, goodRecords, referencesOf};
+ghost use Rattle.rules.specs.Matching.{presentedTo, textMatches, firstPair};
 ghost use Rattle.rules.specs.Verdict.{matchedOr};
 ghost use Rattle.reading.specs.Strings.{readSan, readSubject};
 ghost use Rattle.der.specs.Runs.{validated, namesOf};
-ghost use Rattle.presented.specs.Presented.{stringOf};
-ghost use Rattle.pairs.specs.Pairs.{referenceAt, entryMatches, OutcomeFits};
+ghost use Rattle.presented.specs.Presented.{shownAt};
+ghost use Rattle.pairs.specs.Pairs.{referenceAt, textAt, entryMatches, witnessAt, foundFor, heldBy, HeldFits, OutcomeFits};
+
+// The witness of the first set of the subject that a reference matches, if one does.
+enum Held {
+    By(Witness),
+    Nothing,
+}
 
 // The kind of a reference.
 fn kind_of(references: &[u8], i: usize) -> u8
@@ -62,62 +72,113 @@ fn domain_of(references: &[u8], i: usize) -> &[u8]
     &references[from..to]
 }
 
-// Whether the reference at an index matches a text. "A reference matches only its own kind"; of good records a kind that is
-// neither SRV nor URI is DNS or CN.
-pub fn record_matches(references: &[u8], i: usize, s: &[u8], start: usize, len: usize) -> bool
-    requires { ⌜ goodRecords (now references) ≡ true ⌝ }
-    requires { ⌜ i < length (now references) / recordSize ⌝ }
-    requires { ⌜ start + len ≤ length (now s) ⌝ }
-    ensures { λ r. ⌜ r ≡ textMatches (referenceAt (now (references .entry)) i) (part (now (s .entry)) start len) ⌝ }
+// Whether a text matches a good reference, whose domain has its first dot at `first`. "A reference matches only its own kind"; a good
+// kind that is neither SRV nor URI is DNS or CN.
+fn text_matches(kind: u8, service: &[u8], domain: &[u8], first: usize, text: &[u8]) -> bool
+    requires { ⌜ goodReference (reference kind (now service) (now domain)) ≡ true ⌝ }
+    requires { ⌜ (first ≡ length (before (is dot) (now domain))) × (first ≤ length (now domain)) ⌝ }
+    ensures { λ r. ⌜ r ≡ textMatches (reference kind (now (service .entry)) (now (domain .entry))) (now (text .entry)) ⌝ }
 {
-    let kind = kind_of(references, i);
-    let domain = domain_of(references, i);
-    let end = start + len;
-    let text = &s[start..end];
     if kind == SRV {
-        let service = service_of(references, i);
         return srv::srv_matches(service, domain, text);
     }
     if kind == URI {
-        let scheme = service_of(references, i);
-        return uri::uri_matches(scheme, domain, text);
+        return uri::uri_matches(service, domain, text);
     }
     dns::dns_matches(domain, text)
 }
 
-// The length of the string that references of a kind are held against.
-fn string_len(san: &[u8], subject: &[u8], kind: u8) -> usize
-    ensures { λ r. ⌜ r ≡ length (stringOf kind (now (san .entry)) (now (subject .entry))) ⌝ }
+// The same of the text that stands from `text` to `end` in a string; there is none where `text` is past the end.
+fn name_matches(
+    kind: u8,
+    service: &[u8],
+    domain: &[u8],
+    first: usize,
+    s: &[u8],
+    text: usize,
+    end: usize,
+) -> bool
+    requires { ⌜ goodReference (reference kind (now service) (now domain)) ≡ true ⌝ }
+    requires { ⌜ (first ≡ length (before (is dot) (now domain))) × (first ≤ length (now domain)) ⌝ }
+    requires { ⌜ end ≤ length (now s) ⌝ }
+    ensures { λ r. ⌜ r ≡ textAt (reference kind (now (service .entry)) (now (domain .entry))) (now (s .entry)) text end ⌝ }
 {
-    if kind == CN {
-        return subject.len();
+    if end < text {
+        return false;
     }
-    san.len()
+    text_matches(kind, service, domain, first, &s[text..end])
 }
 
-// Whether an entry of the SAN, or for a CN reference a set of the subject, presents a text that the reference matches.
-fn entry_matches(
-    references: &[u8],
-    i: usize,
-    kind: u8,
-    san: &[u8],
-    subject: &[u8],
-    e: Entry,
-) -> bool
-    requires { ⌜ goodRecords (now references) ≡ true ⌝ }
-    requires { ⌜ i < length (now references) / recordSize ⌝ }
-    requires { ⌜ e .text .start + e .text .length ≤ length (stringOf kind (now san) (now subject)) ⌝ }
-    ensures { λ r. ⌜ r ≡ entryMatches (referenceAt (now (references .entry)) i) (stringOf kind (now (san .entry)) (now (subject .entry))) e ⌝ }
+// Whether a set of the subject presents a text that a CN reference matches.
+fn set_matches(service: &[u8], domain: &[u8], first: usize, subject: &[u8], e: Entry) -> bool
+    requires { ⌜ goodReference (reference cnKind (now service) (now domain)) ≡ true ⌝ }
+    requires { ⌜ (first ≡ length (before (is dot) (now domain))) × (first ≤ length (now domain)) ⌝ }
+    requires { ⌜ e .text .start + e .text .length ≤ length (now subject) ⌝ }
+    ensures { λ r. ⌜ r ≡ entryMatches (reference cnKind (now (service .entry)) (now (domain .entry))) (now (subject .entry)) e ⌝ }
 {
     if e.presents {
-        let start = e.text.start;
-        let len = e.text.length;
-        if kind == CN {
-            return record_matches(references, i, subject, start, len);
-        }
-        return record_matches(references, i, san, start, len);
+        let text = e.text;
+        let start = text.start;
+        let end = start + text.length;
+        return text_matches(CN, service, domain, first, &subject[start..end]);
     }
     false
+}
+
+// The first set that the CN reference at an index matches.
+fn first_cn(references: &[u8], i: usize, san: &[u8], subject: &[u8]) -> Held
+    requires { ⌜ goodRecords (now references) ≡ true ⌝ }
+    requires { ⌜ i < length (now references) / recordSize ⌝ }
+    requires { ⌜ referenceAt (now references) i .kind ≡ cnKind ⌝ }
+    requires { ⌜ validated readSan (now san) ≡ true ⌝ }
+    requires { ⌜ validated readSubject (now subject) ≡ true ⌝ }
+    ensures { λ r. ⌜ r ≡ heldBy (foundFor i (referenceAt (now (references .entry)) i) (presentedTo cnKind (namesOf readSan (now (san .entry))) (namesOf readSubject (now (subject .entry))))) ⌝ }
+    ensures { λ r. ⌜ HeldFits (now (references .entry)) (now (san .entry)) (now (subject .entry)) r ⌝ }
+{
+    let service = service_of(references, i);
+    let domain = domain_of(references, i);
+    let first = octets::find(domain, 0x2E);
+    let mut at = first_set(san, subject);
+    let mut j: usize = 0;
+    while at < subject.len() {
+        let e = set_at(subject, at);
+        let hit = set_matches(service, domain, first, subject, e);
+        if hit {
+            let element = e.element;
+            let text = e.text;
+            return Held::By(Witness {
+                reference: i,
+                presented: j,
+                element: element,
+                text: text,
+                subject: true,
+            });
+        }
+        at = e.next;
+        j += 1;
+    }
+    Held::Nothing
+}
+
+// The witness of a SAN entry that stands from `at` to `next`, and whose text starts at `text`.
+fn entry_witness(i: usize, j: usize, at: usize, text: usize, next: usize) -> Witness
+    requires { ⌜ at ≤ next ⌝ }
+    requires { ⌜ text ≤ next ⌝ }
+    ensures { λ r. ⌜ r ≡ witnessAt i j (shownAt at text next) false ⌝ }
+{
+    Witness {
+        reference: i,
+        presented: j,
+        element: Place {
+            start: at,
+            length: next - at,
+        },
+        text: Place {
+            start: text,
+            length: next - text,
+        },
+        subject: false,
+    }
 }
 
 // "the pair reported is the first: lowest reference, then lowest name"
@@ -129,31 +190,35 @@ pub fn first_pair(references: &[u8], san: &[u8], subject: &[u8]) -> Outcome
     ensures { λ r. ⌜ OutcomeFits (now (references .entry)) (now (san .entry)) (now (subject .entry)) r ⌝ }
 {
     let n = references.len() / RECORD_SIZE;
-    let blocked = blocks_cn(san);
     let mut found = Outcome::Mismatched;
     let mut i = 0;
     'pairs: while i < n {
         let kind = kind_of(references, i);
-        let end = string_len(san, subject, kind);
-        let mut at = first_name(san, subject, kind, blocked);
-        let mut j: usize = 0;
-        while at < end {
-            let e = presented_at(san, subject, kind, at);
-            let hit = entry_matches(references, i, kind, san, subject, e);
-            if hit {
-                let element = e.element;
-                let text = e.text;
-                found = Outcome::Matched(Witness {
-                    reference: i,
-                    presented: j,
-                    element: element,
-                    text: text,
-                    subject: kind == CN,
-                });
+        if kind == CN {
+            let c = first_cn(references, i, san, subject);
+            if let Held::By(w) = c {
+                found = Outcome::Matched(w);
                 break 'pairs;
             }
-            at = e.next;
-            j += 1;
+        } else {
+            let service = service_of(references, i);
+            let domain = domain_of(references, i);
+            let first = octets::find(domain, 0x2E);
+            let end = san.len();
+            let mut at = names_start(san);
+            let mut j: usize = 0;
+            while at < end {
+                let next = element_end(san, at, end);
+                let text = entry_text(san, at, next, kind);
+                let hit = name_matches(kind, service, domain, first, san, text, next);
+                if hit {
+                    let w = entry_witness(i, j, at, text, next);
+                    found = Outcome::Matched(w);
+                    break 'pairs;
+                }
+                at = next;
+                j += 1;
+            }
         }
         i += 1;
     }
