@@ -1,0 +1,5 @@
+pub mod Values
+pub mod Case
+pub mod Ranges
+pub mod Every
+mod Laws
