@@ -1,12 +1,12 @@
 -- The laws that the functions' proofs search.
-use Prim.Native.Nat.{ℕ, _+_, _/_, _<_, _≤_}
-use mathlib.Core.Path.{_≡_, refl, sym, _∙_}
+use Prim.Native.Nat.{ℕ, _+_, _<_, _≤_}
+use mathlib.Core.Path.{_≡_, sym, ap, _∙_}
 use mathlib.Core.List.{List}
 use mathlib.Core.Bool.{Bool, true, false, not}
-use native.Mathlib.Omega.{arith}
 use lib.ListN.{length, getD}
-use lib.Dec.{eqb, ltb}
-use borrow.Author.Tests.{eq-eqb, ne-eqb, ltb-true, ltb-false, not-true, not-false}
+use lib.Seq.{take-length}
+use lib.Dec.{ltb}
+use borrow.Author.Tests.{eq-eqb, ne-eqb, not-true, not-false}
 use Rattle.rules.specs.Bytes.{all, any, ascii, before}
 use Rattle.rules.specs.Names.{is, digit}
 use Rattle.octets.proofs.Classes
@@ -14,7 +14,9 @@ use Rattle.octets.proofs.Compare
 use Rattle.octets.proofs.Cut
 use Rattle.octets.proofs.Every
 use Rattle.octets.proofs.Parts
+use Rattle.octets.proofs.Texts
 use Rattle.octets.proofs.Adding
+use Rattle.words.specs.Words.{low?, every}
 
 -- ---- find, by the comparison that it makes
 
@@ -58,27 +60,9 @@ module _ (s : List ℕ) (i : ℕ) (inv : Every.EveryLeft digit (all digit s) s i
 
 -- ---- ascii
 
-abbrev pub below128 : ℕ → Bool
-below128 b = ltb b 128
-
-pub ascii-begin : (s : List ℕ) → Every.AddedUp below128 s 0 0
-ascii-begin s = Every.added-begin below128 s
-
--- what is added for a byte
-high-bit : (b k : ℕ) → k ≡ b / 128 → eqb k 0 ≡ below128 b
-high-bit b k e = go (ltb b 128) refl
-  where
-    go : (t : Bool) → ltb b 128 ≡ t → eqb k 0 ≡ ltb b 128
-    go true f = rw f (eq-eqb k 0 (omega (arith, ltb-true b 128 f)))
-    go false f = rw f (ne-eqb k 0 (λ z. omega (arith, ltb-false b 128 f)))
-
-module _ (s : List ℕ) (i high : ℕ) (inv : Every.AddedUp below128 s i high) where
-  pub ascii-next : i < length s → (k : ℕ) → k ≡ getD s i 0 / 128 → Every.AddedUp below128 s (i + 1) (high + k)
-  ascii-next h k e = Every.added-next below128 s i high inv h k (high-bit (getD s i 0) k e)
-
-  pub ascii-end : length s ≤ i → eqb high 0 ≡ ascii s
-  unfolding ascii
-  ascii-end h = Every.added-end below128 s i high inv h
+pub ascii-is : (s : List ℕ) (r : Bool) → r ≡ every low? s 0 (length s) → r ≡ ascii s
+unfolding ascii every
+ascii-is s r e = e ∙ ap (all low?) (take-length s)
 
 pub ruleset laws = (
   Classes.lower-under,
@@ -103,10 +87,16 @@ pub ruleset laws = (
   Compare.same-differ,
   Compare.same-end,
   Compare.text-lengths,
-  Compare.text-begin,
-  Compare.text-equal,
-  Compare.text-differ,
-  Compare.text-end,
+  Texts.part-begin,
+  Texts.few-equal,
+  Texts.few-differ,
+  Texts.few-end,
+  Texts.word-same,
+  Texts.word-differs,
+  Texts.whole-few,
+  Texts.whole-differ,
+  Texts.whole-next,
+  Texts.whole-end,
   find-begin,
   find-here,
   find-next,
@@ -116,9 +106,7 @@ pub ruleset laws = (
   digits-next,
   digits-fail,
   digits-end,
-  ascii-begin,
-  ascii-next,
-  ascii-end,
+  ascii-is,
   Parts.rest-is,
   Adding.adds-begin,
   Adding.adds-next,

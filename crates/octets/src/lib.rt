@@ -1,12 +1,16 @@
 // Bytes of a text: the classes of bytes, the comparison of texts with and without case, and the place of a byte; and the lengths of texts.
 ghost use mathlib.Core.Path.{_≡_};
-ghost use Prim.Native.Nat.{_-_, _<_, _≤_};
+ghost use Prim.Native.Nat.{_+_, _-_, _<_, _≤_};
 ghost use lib.ListN.{length, drop};
 ghost use lib.Dec.{eqb};
 ghost use Rattle.rules.specs.Bytes.{all, any, same, before};
 ghost use Rattle.rules.specs.Names.{is, letter, digit, letterDigitHyphen, schemeByte, sameText};
 ghost use Rattle.rules.specs.Names as names;
 ghost use Rattle.rules.specs.Bytes as bytes;
+ghost use Rattle.octets.specs.Texts.{samePart};
+
+// The bit in which a letter and its capital differ, of each byte.
+const CASE: u64 = 0x2020202020202020;
 
 // A byte as a number, with the bound that a byte has.
 pub fn wide(x: u8) -> usize
@@ -110,16 +114,16 @@ fn same_letter(x: u8, y: u8) -> bool
     lower(y) == x
 }
 
-// Whether two texts are the same without case: left at the first difference, and folded only where two bytes differ.
-pub fn same_text(a: &[u8], b: &[u8]) -> bool
-    ensures { λ r. ⌜ r ≡ sameText (now (a .entry)) (now (b .entry)) ⌝ }
+// Whether the bytes of two texts from start to end are the same without case: left at the first difference, and folded only where two
+// bytes differ.
+fn same_few(a: &[u8], b: &[u8], start: usize, end: usize) -> bool
+    requires { ⌜ start ≤ end ⌝ }
+    requires { ⌜ end ≤ length (now a) ⌝ }
+    requires { ⌜ end ≤ length (now b) ⌝ }
+    ensures { λ r. ⌜ r ≡ samePart (now (a .entry)) (now (b .entry)) start end ⌝ }
 {
-    let n = a.len();
-    if n != b.len() {
-        return false;
-    }
-    let mut k = 0;
-    while k < n {
+    let mut k = start;
+    while k < end {
         let x = a[k];
         let y = b[k];
         if x != y {
@@ -131,6 +135,49 @@ pub fn same_text(a: &[u8], b: &[u8]) -> bool
         k += 1;
     }
     true
+}
+
+// Whether eight bytes are the same without case. A letter and its capital differ in one bit, so that two words which differ in another
+// are left at once.
+fn same_word(a: &[u8], b: &[u8], at: usize) -> bool
+    requires { ⌜ at + 8 ≤ length (now a) ⌝ }
+    requires { ⌜ at + 8 ≤ length (now b) ⌝ }
+    ensures { λ r. ⌜ r ≡ samePart (now (a .entry)) (now (b .entry)) at (at + 8) ⌝ }
+{
+    let x = words::word(a, at);
+    let y = words::word(b, at);
+    if x == y {
+        return true;
+    }
+    let u = x | CASE;
+    let v = y | CASE;
+    if u != v {
+        return false;
+    }
+    same_few(a, b, at, at + 8)
+}
+
+// Whether two texts are the same without case: eight bytes at a time, and the last eight again, left at the first eight that differ.
+pub fn same_text(a: &[u8], b: &[u8]) -> bool
+    ensures { λ r. ⌜ r ≡ sameText (now (a .entry)) (now (b .entry)) ⌝ }
+{
+    let n = a.len();
+    if n != b.len() {
+        return false;
+    }
+    if n < 8 {
+        return same_few(a, b, 0, n);
+    }
+    let last = n - 8;
+    let mut k = 0;
+    while k < last {
+        let same = same_word(a, b, k);
+        if !same {
+            return false;
+        }
+        k += 8;
+    }
+    same_word(a, b, last)
 }
 
 // The index of the first b, or the length where there is none.
@@ -170,17 +217,11 @@ pub fn digits(s: &[u8]) -> bool
     true
 }
 
-// Whether every byte is below 128: those that are not are counted, with no branch on a byte. The compiler takes two bytes to a vector.
+// Whether every byte is below 128, many at a time.
 pub fn ascii(s: &[u8]) -> bool
     ensures { λ r. ⌜ r ≡ bytes.ascii (now (s .entry)) ⌝ }
 {
-    let mut high: usize = 0;
-    let mut i = 0;
-    while i < s.len() {
-        high += wide(s[i] / 128);
-        i += 1;
-    }
-    high == 0
+    words::low(s, 0, s.len())
 }
 
 // The bytes from a place on.
