@@ -1,17 +1,16 @@
 -- The laws that the functions' proofs search: one for each return and each step of a loop.
 use Prim.Native.Nat.{ℕ, zero, suc, _+_, _-_, _*_, _/_, _%_, _≤_, _<_}
-use mathlib.Core.Path.{_≡_, refl, sym, ap, _∙_}
+use mathlib.Core.Path.{_≡_, refl, sym, _∙_}
 use mathlib.Core.Bool.{Bool, true, false, not, _&&_, false≢true}
 use mathlib.Core.List.{List, []}
 use native.Mathlib.Omega.{arith}
 use native.Mathlib.Nat.{add-zero, add-sub-cancel-left}
 use lib.ListN.{length, getD, take, drop, length-drop, length-take}
-use lib.Seq.{drop-drop}
+use lib.Seq.{drop-drop, take-length}
 use lib.Dec.{eqb, leb}
 use borrow.Author.Tests.{leb-true, eq-eqb, ne-eqb, le-leb, lt-leb, lt-ltb, le-ltb, not-true, not-false}
 use Rattle.octets.proofs.Cases.{none-is, some-is}
-use Rattle.octets.proofs.Every.{AddedUp, added-begin, added-next, added-end}
-use Rattle.octets.proofs.Parts.{rest-is}
+use Rattle.words.specs.Words.{every, zero?}
 use Rattle.names.proofs.Labels.{two-labels}
 use Rattle.rules.specs.Bytes.{part, all, any}
 use Rattle.rules.specs.Numbers.{recordSize, serviceLengthAt, domainLengthAt, serviceAt, serviceSize, domainAt, domainSize, recordsLimit}
@@ -21,28 +20,6 @@ use Rattle.rules.specs.declared.Shown.{Shown}
 use Rattle.records.specs.Small.{SmallShown}
 use Rattle.records.proofs.Split.{count-is, record-at, shown-past, shown-at, byte-at}
 
--- ---- all_zero
-
-abbrev pub zero? : ℕ → Bool
-zero? b = eqb b 0
-
-pub sum-begin : (s : List ℕ) → AddedUp zero? s 0 0
-sum-begin s = added-begin zero? s
-
-module _ (s : List ℕ) (i sum : ℕ) (inv : AddedUp zero? s i sum) where
-  pub sum-next : i < length s → (b : ℕ) → b ≡ getD s i 0 → AddedUp zero? s (i + 1) (sum + b)
-  sum-next h b e = added-next zero? s i sum inv h b (ap zero? e)
-
-  pub sum-end : length s ≤ i → eqb sum 0 ≡ all zero? s
-  sum-end h = added-end zero? s i sum inv h
-
--- no part is longer than its whole
-pub rest-short : (s : List ℕ) (n : ℕ) → length s ≤ recordSize → length (take (length s - n) (drop n s)) ≤ recordSize
-rest-short s n h = simp (length-take, length-drop) (omega arith)
-
-pub field-short : (s : List ℕ) (a n : ℕ) → n ≤ recordSize → length (take n (drop a s)) ≤ recordSize
-field-short s a n h = simp (length-take) (omega arith)
-
 -- ---- filled
 
 module _ (field : List ℕ) (n : ℕ) where
@@ -50,9 +27,9 @@ module _ (field : List ℕ) (n : ℕ) where
   unfolding filled
   filled-short h = simp (lt-leb n (length field) h)
 
-  pub filled-rest : (r : Bool) → n ≤ length field → r ≡ all zero? (take (length field - n) (drop n field)) → r ≡ filled field n
-  unfolding filled
-  filled-rest r h e = e ∙ rw (rest-is field n) (simp (le-leb n (length field) h))
+  pub filled-rest : (r : Bool) → n ≤ length field → r ≡ every zero? field n (length field) → r ≡ filled field n
+  unfolding filled every
+  filled-rest r h e = e ∙ rw (take-length field) (simp (le-leb n (length field) h))
 
 -- a text that fits its field is no longer than it
 filled-fits : (field : List ℕ) (n : ℕ) {most : ℕ} → filled field n ≡ true → length field ≤ most → n ≤ most
@@ -232,10 +209,6 @@ pub inside : (b : List ℕ) (i k : ℕ) → i < length b / recordSize → k < re
 inside b i k h l = omega arith
 
 pub ruleset laws = (
-  sum-begin,
-  sum-next,
-  sum-end,
-  rest-short,
   filled-short,
   filled-rest,
   service-dns,

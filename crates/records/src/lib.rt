@@ -17,38 +17,20 @@ use rules::SRV;
 use rules::Shown;
 use rules::URI;
 ghost use mathlib.Core.Path.{_≡_};
-ghost use Prim.Native.Nat.{_≤_};
 ghost use lib.ListN.{length};
-ghost use lib.Dec.{eqb};
-ghost use Rattle.rules.specs.Bytes.{all};
 ghost use Rattle.rules.specs.Numbers.{recordSize};
 ghost use Rattle.rules.specs.Records as records;
 ghost use Rattle.rules.specs.Records.{reference};
 ghost use Rattle.records.specs.Small.{SmallShown};
 
-// Whether every byte is zero: they are added up, with no branch on a byte. The compiler makes no vectors of this loop.
-fn all_zero(s: &[u8]) -> bool
-    requires { ⌜ length (now s) ≤ recordSize ⌝ }
-    ensures { λ r. ⌜ r ≡ all (λ b. eqb b 0) (now (s .entry)) ⌝ }
-{
-    let mut sum: usize = 0;
-    let mut i = 0;
-    while i < s.len() {
-        sum += wide(s[i]);
-        i += 1;
-    }
-    sum == 0
-}
-
 // Whether a text of n bytes fits its field, "filled with zeros".
 fn filled(field: &[u8], n: usize) -> bool
-    requires { ⌜ length (now field) ≤ recordSize ⌝ }
     ensures { λ r. ⌜ r ≡ records.filled (now (field .entry)) n ⌝ }
 {
     if field.len() < n {
         return false;
     }
-    all_zero(&field[n..])
+    words::zero(field, n, field.len())
 }
 
 // "Kinds 1 and 4 have service length 0. Kind 2: a service .. Kind 3: a URI scheme"
