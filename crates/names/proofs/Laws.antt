@@ -16,6 +16,7 @@ use Rattle.rules.specs.Names.{letter, digit, letterDigitHyphen, ldh, service, d
 use Rattle.names.specs.Label.{outside, bounded}
 use Rattle.names.proofs.Runs
 use Rattle.names.proofs.Within
+use Rattle.names.proofs.Pairs
 
 -- ---- run_length
 
@@ -188,6 +189,22 @@ pub ruleset laws = (
   label-last,
   label-next,
   label-stops,
+  Pairs.alnum-letter,
+  Pairs.alnum-digit,
+  Pairs.pair-alnum,
+  Pairs.pair-hyphen-dot,
+  Pairs.pair-hyphen,
+  Pairs.pair-dot-alnum,
+  Pairs.pair-dot,
+  Pairs.pair-other,
+  Pairs.clean-begin,
+  Pairs.clean-none,
+  Pairs.clean-next,
+  Pairs.clean-end,
+  Pairs.first-bad,
+  Pairs.pairs-next,
+  Pairs.pairs-end,
+  Pairs.ends-letter,
   scheme-empty,
   scheme-long,
   scheme-first,
