@@ -1,22 +1,21 @@
 -- The laws that the functions' proofs search: one for each return, and that a wildcard has the two bytes that are cut off.
 use Prim.Native.Nat.{ℕ, _+_, _-_, _<_, _≤_}
-use mathlib.Core.Path.{_≡_, refl, sym, ap, _∙_}
+use mathlib.Core.Path.{_≡_, refl, sym, _∙_}
 use mathlib.Core.List.{List, [], _∷_}
 use mathlib.Core.Bool.{Bool, true, false, not, and-true, and-false}
 use native.Mathlib.Omega.{arith}
-use lib.ListN.{length, getD, take, drop, length-drop}
+use lib.ListN.{length, getD, take, drop}
 use lib.Dec.{eqb}
-use borrow.Author.Tests.{eq-eqb, ne-eqb, eqb-true, eqb-false, le-leb, lt-leb, ltb-true, not-true, not-false}
-use Rattle.octets.proofs.Cases.{by-cases, and-left, and-right, fails, clash, eqb-swap}
-use Rattle.octets.proofs.Compare.{text-length}
+use borrow.Author.Tests.{eq-eqb, ne-eqb, eqb-true, eqb-false, le-leb, lt-leb, not-true, not-false}
+use Rattle.octets.proofs.Cases.{by-cases, and-right, fails, clash, eqb-swap}
 use Rattle.octets.proofs.Place.{passes-at, part-after, one-passes}
 use Rattle.octets.proofs.Parts.{rest-is}
-use Rattle.octets.proofs.Cut as cut
 use Rattle.names.proofs.Labels.{two-labels}
 use Rattle.rules.specs.Bytes.{any, begins, before, after}
 use Rattle.rules.specs.Names.{is, star, dot, domain, sameText, dnsId, dnsMatches}
-use Rattle.dns.specs.Wildcard.{wildDomain, pastFirst}
+use Rattle.dns.specs.Wildcard.{wildDomain, pastFirst, wildMatches}
 use Rattle.dns.proofs.Subtrees
+use Rattle.dns.proofs.Known.{first-at, known-length, known-other, known-same, known-wild, known-plain}
 use Rattle.dns.proofs.Matching.{wild, wild-is, wild-id, plain-id, wild-matches, plain-matches}
 
 -- ---- begins_wild
@@ -57,20 +56,8 @@ module _ (t : List ℕ) where
 -- ---- past_first
 
 module _ (text t : List ℕ) where
-  -- a text that is one label and then t has its first dot as many bytes before its end as t has, and one more
-  first-at : pastFirst text t ≡ true → (length t < length text) × (length text - length t - 1 ≡ length (before (is dot) text))
-  unfolding pastFirst
-  first-at e =
-      let some-dot = and-left (any (is dot) text) (sameText t (after (is dot) text)) e in
-      let same = and-right (any (is dot) text) (sameText t (after (is dot) text)) e in
-      let within : length (before (is dot) text) < length text = ltb-true _ _ (sym (cut.any-is (is dot) text) ∙ some-dot) in
-      let rest : length (after (is dot) text) ≡ length text - (length (before (is dot) text) + 1) =
-      ap length (sym (cut.drop-after (is dot) text)) ∙ length-drop (length (before (is dot) text) + 1) text in
-      let long = text-length t (after (is dot) text) same in
-      (omega arith, omega arith)
-
   pub past-short : length text ≤ length t → false ≡ pastFirst text t
-  past-short h = fails (pastFirst text t) (λ e. omega (arith, first-at e .0))
+  past-short h = fails (pastFirst text t) (λ e. omega (arith, first-at text t e .0))
 
   module _ (h : length t < length text) where
     abbrev at : ℕ
@@ -78,14 +65,14 @@ module _ (text t : List ℕ) where
 
     pub past-no-dot : (getD text at 0 ≡ 0x2E → ⊥) → false ≡ pastFirst text t
     past-no-dot n =
-        fails (pastFirst text t) (λ e. n (eqb-true (getD text at 0) dot (passes-at (is dot) text at (first-at e .1) (omega arith))))
+        fails (pastFirst text t) (λ e. n (eqb-true (getD text at 0) dot (passes-at (is dot) text at (first-at text t e .1) (omega arith))))
 
     module _ (same : Bool) (is-same : same ≡ sameText t (take (length text - (at + 1)) (drop (at + 1) text))) where
       pub past-other : not same ≡ true → false ≡ pastFirst text t
       unfolding pastFirst
       past-other n =
           fails (pastFirst text t) (λ e.
-          clash (rw (← part-after (is dot) text at (first-at e .1)) at (and-right (any (is dot) text) (sameText t (after (is dot) text)) e))
+          clash (rw (← part-after (is dot) text at (first-at text t e .1)) at (and-right (any (is dot) text) (sameText t (after (is dot) text)) e))
           (sym (rw (rest-is text (at + 1)) at is-same) ∙ not-true same n))
 
       -- the dot is the first
@@ -97,7 +84,7 @@ module _ (text t : List ℕ) where
       pub past-is : not same ≡ false → (first : ℕ) → first ≡ length (before (is dot) text) → eqb first at ≡ pastFirst text t
       past-is n first is-first =
           by-cases (eqb first at) (λ e. e ∙ past-first-dot n (sym (eqb-true first at e) ∙ is-first))
-          (λ e. e ∙ fails (pastFirst text t) (λ p. eqb-false first at e (is-first ∙ sym (first-at p .1))))
+          (λ e. e ∙ fails (pastFirst text t) (λ p. eqb-false first at e (is-first ∙ sym (first-at text t p .1))))
 
 -- ---- dns_id
 
@@ -116,12 +103,14 @@ module _ (s : List ℕ) (w : Bool) (is-wild : w ≡ wild s) where
 module _ (reference text : List ℕ) (w : Bool) (is-wild : w ≡ wild text) where
   module _ (same : Bool) (is-same : same ≡ pastFirst reference (take (length text - 2) (drop 2 text))) where
     pub wild-differs : w ≡ true → not same ≡ true → false ≡ dnsMatches reference text
+    unfolding wildMatches
     wild-differs e n =
         let f = rw (rest-is text 2) at is-same in
         rw (wild-matches reference text (sym is-wild ∙ e), ← f, not-true same n)
 
     pub wild-same : w ≡ true → not same ≡ false → (r : Bool) → r ≡ wildDomain (take (length text - 2) (drop 2 text))
         → r ≡ dnsMatches reference text
+    unfolding wildMatches
     wild-same e n r g =
         let f = rw (rest-is text 2) at is-same in
         rw (wild-matches reference text (sym is-wild ∙ e), ← f, not-false same n) (rw (rest-is text 2) at g)
@@ -151,6 +140,11 @@ pub ruleset laws = (
   wild-same,
   plain-differs,
   plain-same,
+  known-length,
+  known-other,
+  known-same,
+  known-wild,
+  known-plain,
   Subtrees.restriction-empty,
   Subtrees.restriction-domain,
   Subtrees.within-every,

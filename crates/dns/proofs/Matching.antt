@@ -17,7 +17,7 @@ use Rattle.rules.specs.Bytes.{any, same, begins, before, after}
 use Rattle.rules.specs.Names as rules
 use Rattle.rules.specs.Names.{is, star, dot, label, labels, domain, sameText, sameLabels, sameDomain, wildcard, dnsId, leftmostMatches, labelsMatch, dnsMatches}
 use Rattle.names.specs.Label.{outside}
-use Rattle.dns.specs.Wildcard.{wildDomain, pastFirst}
+use Rattle.dns.specs.Wildcard.{wildDomain, pastFirst, wildMatches}
 
 -- s begins with "*."
 abbrev pub wild : List ℕ → Bool
@@ -79,9 +79,8 @@ module _ (s : List ℕ) where
 
 -- a match, by the presented text's first two bytes
 module _ (reference text : List ℕ) where
-  pub wild-matches : wild text ≡ true
-      → dnsMatches reference text ≡ pastFirst reference (drop 2 text) && wildDomain (drop 2 text)
-  unfolding dnsMatches
+  pub wild-matches : wild text ≡ true → dnsMatches reference text ≡ wildMatches reference (drop 2 text)
+  unfolding dnsMatches wildMatches
   wild-matches e =
       let past = ap (λ u. labelsMatch (labels u) (labels reference)) (wild-is text e) ∙ wild-labels reference (drop 2 text) in
       rw (wild-id text e, past) (and-comm (wildDomain (drop 2 text)) (pastFirst reference (drop 2 text)))

@@ -2,9 +2,11 @@
 ghost use mathlib.Core.Path.{_≡_};
 ghost use mathlib.Core.Bool.{true};
 ghost use mathlib.Core.List.{[], _∷_};
-ghost use Rattle.rules.specs.Bytes.{begins};
-ghost use Rattle.rules.specs.Names.{star, dot, dnsId, dnsMatches, dnsRestriction, dnsWithin, dnsReaches};
-ghost use Rattle.dns.specs.Wildcard.{wildDomain, pastFirst};
+ghost use Prim.Native.Nat.{_≤_};
+ghost use lib.ListN.{length};
+ghost use Rattle.rules.specs.Bytes.{begins, before};
+ghost use Rattle.rules.specs.Names.{is, star, dot, domain, dnsId, dnsMatches, dnsRestriction, dnsWithin, dnsReaches};
+ghost use Rattle.dns.specs.Wildcard.{wildDomain, pastFirst, wildMatches};
 
 // Whether s begins with "*.".
 fn begins_wild(s: &[u8]) -> bool
@@ -85,6 +87,39 @@ pub fn dns_matches(reference: &[u8], text: &[u8]) -> bool
         return false;
     }
     names::domain(text)
+}
+
+// Whether `*.` and a text is a DNS-ID that matches a reference; the reference is a domain, and its first dot stands at `first`, or there is
+// none. Lengths come first. A text that is what stands past the first dot of a domain is a domain itself, and short enough; that it has
+// two labels must be asked.
+fn wild_matches(reference: &[u8], first: usize, rest: &[u8]) -> bool
+    requires { ⌜ domain (now reference) ≡ true ⌝ }
+    requires { ⌜ (first ≡ length (before (is dot) (now reference))) × (first ≤ length (now reference)) ⌝ }
+    ensures { λ r. ⌜ r ≡ wildMatches (now (reference .entry)) (now (rest .entry)) ⌝ }
+{
+    if reference.len() - first != rest.len() + 1 {
+        return false;
+    }
+    let past = octets::from(reference, first + 1);
+    let same = octets::same_text(rest, past);
+    if !same {
+        return false;
+    }
+    octets::has(rest, 0x2E)
+}
+
+// Whether a presented text is a DNS-ID and matches a reference; the reference is a domain, and its first dot stands at `first`, or there
+// is none. A text that is a domain without case is one, and is not looked at again.
+pub fn domain_matches(reference: &[u8], first: usize, text: &[u8]) -> bool
+    requires { ⌜ domain (now reference) ≡ true ⌝ }
+    requires { ⌜ (first ≡ length (before (is dot) (now reference))) × (first ≤ length (now reference)) ⌝ }
+    ensures { λ r. ⌜ r ≡ dnsMatches (now (reference .entry)) (now (text .entry)) ⌝ }
+{
+    let wild = begins_wild(text);
+    if wild {
+        return wild_matches(reference, first, &text[2..]);
+    }
+    octets::same_text(text, reference)
 }
 
 // "an empty text contains every name; any other text must be a domain, else 5"
