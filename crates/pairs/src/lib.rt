@@ -85,7 +85,7 @@ fn text_matches(kind: u8, service: &[u8], domain: &[u8], first: usize, text: &[u
     if kind == URI {
         return uri::uri_matches(service, domain, text);
     }
-    dns::dns_matches(domain, text)
+    dns::domain_matches(domain, first, text)
 }
 
 // The same of the text that stands from `text` to `end` in a string; there is none where `text` is past the end.

@@ -4,7 +4,7 @@ use Rattle.pairs.proofs.text_matches.Statement.{statement}
 use Rattle.pairs.proofs.text_matches.Tie as tie
 use Rattle.pairs.proofs.text_matches.Reads as reads
 use Rattle.pairs.proofs.text_matches.Lts as lts
-use Rattle.dns.proofs.dns_matches.Reads as dns-matches-reads
+use Rattle.dns.proofs.domain_matches.Reads as domain-matches-reads
 use Rattle.srv.proofs.srv_matches.Reads as srv-matches-reads
 use Rattle.uri.proofs.uri_matches.Reads as uri-matches-reads
 
@@ -25,8 +25,8 @@ returns-2 : tie.Need-returns-2
 returns-2 c = search (needs, laws)
 
 -- src/lib.rt:88:5
-dns-matches-requires : tie.Need-dns-matches-requires
-dns-matches-requires c κs = search needs
+domain-matches-requires : tie.Need-domain-matches-requires
+domain-matches-requires c κs = search (needs, laws)
 
 -- src/lib.rt:77:1
 returns-3 : tie.Need-returns-3
@@ -40,5 +40,5 @@ text-matches-spec =
     returns
     uri-matches-requires
     returns-2
-    dns-matches-requires
+    domain-matches-requires
     returns-3)
