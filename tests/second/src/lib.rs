@@ -4,6 +4,7 @@
 //! sentences in the comments are document 01's, or a request's where they say
 //! so.
 
+pub mod best;
 pub mod constraints;
 pub mod der;
 pub mod examples;
