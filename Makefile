@@ -3,7 +3,7 @@
 # make check   proves what changed since the last time, and runs the programs.
 # make build   makes the archive for C, target/staticlib/libbeckethand.a, and the program, target/bin/namecheck.
 # make soak    compares with the second program on fresh cases, until stopped.
-# make bench   measures a verdict, 8 issuers, paging, writing and comparing labels against the second program. A measurement, no test.
+# make bench   measures verdicts, paging, writing and comparing labels against the second program; fails over twice its time for a verdict.
 # make times   measures the check of each crate, from nothing, as a table: seconds, memory and must-fail edits.
 
 .PHONY: help test demo check build soak bench times

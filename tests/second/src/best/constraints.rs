@@ -43,7 +43,8 @@ fn first_breach(san: &[u8], restrictions: &[Restrictions]) -> Option<(usize, usi
     let mut found = None;
     let mut room = Room::new();
     let mut index = 0;
-    while let Some((tag, content, behind)) = element(rest) {
+    while !open.is_empty() && !rest.is_empty() {
+        let (tag, content, behind) = element(rest)?;
         let broken = match general_name(tag, content)? {
             GeneralName::Dns(text) => broken_by_dns_name(open, text, &mut room),
             GeneralName::Srv(text) => broken_by_srv_name(open, text, &mut room),
@@ -86,11 +87,9 @@ fn broken_by_dns_name(open: &[Restrictions], text: &[u8], room: &mut Room) -> Op
 fn broken_by_srv_name(open: &[Restrictions], text: &[u8], room: &mut Room) -> Option<usize> {
     let asks = |one: &Restrictions| !one.srv.is_empty();
     let first = open.iter().position(asks)?;
-    let parts = srv_parts(text).filter(|(service, domain)| {
-        let given = [service, domain];
-        given.iter().all(|part| !part.is_empty())
-    });
-    let Some((service, domain)) = parts else {
+    let parts = srv_parts(text);
+    let Some((service, domain)) = parts.filter(|(one, other)| !one.is_empty() && !other.is_empty())
+    else {
         return Some(first);
     };
     let name = room.put(service, domain);

@@ -71,8 +71,11 @@ pub fn labels(text: &[u8]) -> Labels {
     let (Some(&first), Some(&last)) = (text.first(), text.last()) else {
         return Labels::NoDomain;
     };
+    if text.len() > LONGEST_DOMAIN {
+        return Labels::NoDomain;
+    }
     let (wrong, dot) = look_at(text);
-    if wrong | !is_alphanumeric(first) | !is_alphanumeric(last) | (text.len() > LONGEST_DOMAIN) {
+    if wrong | !is_alphanumeric(first) | !is_alphanumeric(last) {
         return Labels::NoDomain;
     }
     if last.is_ascii_digit() && ends_in_digits(text) || text.len() > LONGEST_LABEL && has_long(text)
@@ -94,7 +97,7 @@ pub fn is_domain(text: &[u8]) -> bool {
 #[inline(never)]
 fn ends_in_digits(text: &[u8]) -> bool {
     let label = text.iter().rev().take_while(|&&byte| byte != b'.');
-    label.into_iter().all(u8::is_ascii_digit)
+    label.copied().all(|byte| byte.is_ascii_digit())
 }
 
 /// Whether a label is too long.

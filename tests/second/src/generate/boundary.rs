@@ -1,10 +1,12 @@
 //! A fixed table of cases: every limit, every tag, every small text.
 
+pub mod edges;
 mod far;
 mod issuers;
 mod labels;
 mod lengths;
 mod letters;
+mod many;
 mod numbers;
 mod rows;
 mod subtrees;
@@ -44,11 +46,13 @@ pub fn each(take: Taker) {
     every_bit(take);
     every_byte(take);
     small_texts(take);
+    edges::each(take);
     far::each(take);
     issuers::each(take);
     labels::each(take);
     lengths::each(take);
     letters::each(take);
+    many::each(take);
     numbers::each(take);
     rows::each(take);
     subtrees::each(take);

@@ -3,6 +3,7 @@
 
 use second::archive;
 use second::examples::{domain_of, LABEL};
+use second::generate::boundary::edges;
 use second::generate::texts::pairs;
 use second::text::same_text;
 
@@ -27,8 +28,8 @@ impl Tally {
     }
 }
 
-/// Every pair of bytes, alone and in two places of labels of 63 bytes, and texts
-/// of every two lengths.
+/// Every pair of bytes, alone and in two places of labels of 63 bytes, texts of
+/// every two lengths, and texts of 1 to 40 bytes that differ in one.
 pub fn compare_table(tally: &mut Tally) -> Result<(), String> {
     for one in 0..=255 {
         for other in 0..=255 {
@@ -44,6 +45,21 @@ pub fn compare_table(tally: &mut Tally) -> Result<(), String> {
     for one in 0..=text.len() {
         for other in 0..=text.len() {
             compare(&text[..one], &text[..other], tally)?;
+        }
+    }
+    (1..=40).try_for_each(|length| compare_changed(length, tally))
+}
+
+/// A text of this length, as it is and in capitals, and the same with one bit of
+/// one byte turned, at each place (request 7/13).
+fn compare_changed(length: usize, tally: &mut Tally) -> Result<(), String> {
+    let text = edges::domain_of(length);
+    for place in 0..length {
+        for bit in 0..8 {
+            let mut other = text.clone();
+            other[place] ^= 1 << bit;
+            compare(&text, &other, tally)?;
+            compare(&other, &text.to_ascii_uppercase(), tally)?;
         }
     }
     Ok(())

@@ -91,6 +91,6 @@ fn bytes_past_ascii(take: Taker) {
     }
 }
 
-fn in_san(name: Node) -> Case {
+pub fn in_san(name: Node) -> Case {
     with(0, san(vec![name, dns_name(b"a.b")]).write())
 }

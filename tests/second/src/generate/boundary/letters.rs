@@ -69,7 +69,7 @@ fn changes(take: Taker, line: &Line, kind: u8, text: &[u8]) {
 }
 
 /// A presented identifier of one kind with one byte changed.
-fn changed_names(take: Taker, kind: u8, service: &[u8], domain: &[u8]) {
+pub fn changed_names(take: Taker, kind: u8, service: &[u8], domain: &[u8]) {
     let text = name_text(kind, service, domain);
     changes(take, &same(kind, service, domain), kind, &text);
 }
