@@ -1,7 +1,7 @@
 -- The bit of the case, set in each byte: texts that are the same without case make the same number.
 use Prim.Native.Nat.{ℕ, zero, suc, _+_, _-_, _*_, _<_, _≤_}
 use mathlib.Core.Path.{_≡_, refl, sym, ap, ap₂, _∙_}
-use mathlib.Core.Bool.{true, false, _&&_, false≢true}
+use mathlib.Core.Bool.{true, _&&_, false≢true}
 use mathlib.Core.List.{List, [], _∷_}
 use native.Mathlib.Omega.{arith}
 use lib.ListN.{length, take, drop}
@@ -12,7 +12,7 @@ use borrow.Author.Tests.{eqb-true, leb-true, ltb-true}
 use Rattle.rules.specs.Bytes.{all}
 use Rattle.rules.specs.Names.{lower, sameText}
 use Rattle.rules.proofs.Cases.{by-cases, and-left, and-right}
-use Rattle.words.specs.Words.{Number, value, byte?}
+use Rattle.words.specs.Words.{Number, value, byte?, folded}
 
 -- the bit of n bytes
 abbrev pub cases : ℕ → ℕ
@@ -39,21 +39,26 @@ case-byte b =
     rw t (rw e at (case-capital (b - 64) (omega arith))))
     (λ t. rw t)
 
+pub same-folded : (l m : List ℕ) → sameText l m ≡ true → folded l ≡ folded m
+unfolding sameText folded
+same-folded [] [] e = refl
+same-folded [] (y ∷ m) e = absurd (false≢true e)
+same-folded (x ∷ l) [] e = absurd (false≢true e)
+same-folded (x ∷ l) (y ∷ m) e =
+    let same = eqb-true (lower x) (lower y) (and-left (eqb (lower x) (lower y)) (sameText l m) e) in
+    ap₂ _∷_ (sym (case-byte x) ∙ ap (λ k. bitOr k 32) same ∙ case-byte y)
+    (same-folded l m (and-right (eqb (lower x) (lower y)) (sameText l m) e))
+
+pub folded-value : (l : List ℕ) → all byte? l ≡ true → bitOr (value l) (cases (length l)) ≡ value (folded l)
+unfolding value folded
+folded-value [] p = refl
+folded-value (x ∷ l) p =
+    value-case (value l) (cases (length l)) x (ltb-true x 256 (and-left (byte? x) (all byte? l) p))
+    ∙ ap (λ k. k * 256 + bitOr x 32) (folded-value l (and-right (byte? x) (all byte? l) p))
+
 pub same-values : (l m : List ℕ) → all byte? l ≡ true → all byte? m ≡ true → sameText l m ≡ true
     → bitOr (value l) (cases (length l)) ≡ bitOr (value m) (cases (length m))
-unfolding value sameText
-same-values [] [] p q e = refl
-same-values [] (y ∷ m) p q e = absurd (false≢true e)
-same-values (x ∷ l) [] p q e = absurd (false≢true e)
-same-values (x ∷ l) (y ∷ m) p q e =
-    let same = eqb-true (lower x) (lower y) (and-left (eqb (lower x) (lower y)) (sameText l m) e) in
-    let one : bitOr x 32 ≡ bitOr y 32 = sym (case-byte x) ∙ ap (λ k. bitOr k 32) same ∙ case-byte y in
-    let rest =
-    same-values l m (and-right (byte? x) (all byte? l) p) (and-right (byte? y) (all byte? m) q)
-    (and-right (eqb (lower x) (lower y)) (sameText l m) e) in
-    value-case (value l) (cases (length l)) x (ltb-true x 256 (and-left (byte? x) (all byte? l) p))
-    ∙ ap₂ (λ i j. i * 256 + j) rest one
-    ∙ sym (value-case (value m) (cases (length m)) y (ltb-true y 256 (and-left (byte? y) (all byte? m) q)))
+same-values l m p q e = folded-value l p ∙ ap value (same-folded l m e) ∙ sym (folded-value m q)
 
 -- eight bytes at a place of each of two texts
 pub same-words : (a b : List ℕ) (i j x y : ℕ) → i + 8 ≤ length a → j + 8 ≤ length b → Number 8 a i x → Number 8 b j y
