@@ -28,7 +28,8 @@ use Rattle.constrained.specs.declared.Sides.{Sides}
 use Rattle.constrained.specs.declared.First.{First}
 use Rattle.constrained.specs.declared.First.the-variants.{At, Nothing}
 use Rattle.entries.proofs.Steps.{with-entry}
-use Rattle.constrained.proofs.Texts.{text-there, text-not-there}
+use Rattle.entries.proofs.Texts.{text-there, text-not-there}
+use Rattle.constrained.proofs.Texts.{form-own}
 use Rattle.constrained.proofs.Permission.{all-allowed}
 
 -- ---- one entry
@@ -54,14 +55,14 @@ module _ (kind : ℕ) (cs s : List ℕ) (at end : ℕ) (h : at + 2 ≤ end) (fit
     -- a name of another form
     pub entry-other : end < r → false ≡ breaksAsAt (formOf kind) names s at end
     unfolding breaksAsAt breaksAs
-    entry-other k = some-of (wholeAt s at end) valid λ m p. rw (p, text-not-there kind s at end (omega arith) fits r r-is m p k)
+    entry-other k = some-of (wholeAt s at end) valid λ m p. rw (p, text-not-there (formOf kind .text) s at end r r-is m p k)
 
     -- a name of the form breaks the string where its text is not allowed
     pub entry-text : r ≤ end → (b : Bool) → b ≡ allowed (formOf kind) names (take (end - r) (drop r s)) → not b ≡ breaksAsAt (formOf kind) names s at end
     unfolding breaksAsAt breaksAs
     entry-text k b b-is =
         some-of (wholeAt s at end) valid λ m p.
-        rw (p, text-there kind s at end (omega arith) fits r r-is m p k, b-is, part-is s r end k)
+        rw (p, text-there (formOf kind .text) s at end r r-is m p (form-own kind) (omega arith) fits k, b-is, part-is s r end k)
 
 -- of either form
 module _ (cs : List (Member GeneralName)) (s : List ℕ) (at end : ℕ) (valid : isSome (wholeAt s at end) ≡ true)

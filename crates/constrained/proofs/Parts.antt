@@ -14,7 +14,8 @@ use Rattle.der.specs.Runs.{Run, itemsIn, startOf, endOf, no-items}
 use Rattle.entries.specs.Entries.{formOf, textPlace}
 use Rattle.constrained.specs.Subtrees.{meeting, meetsAt, meetsAny, textsOf, textsIn, Narrowed}
 use Rattle.entries.proofs.Steps.{step-fits, with-subtree}
-use Rattle.constrained.proofs.Texts.{text-there, text-not-there}
+use Rattle.entries.proofs.Texts.{text-there, text-not-there}
+use Rattle.constrained.proofs.Texts.{form-own}
 
 -- no subtree is left
 texts-end : (form : Form) (s : List ℕ) (at end : ℕ) → Run readSubtree s at end → end ≤ at → textsIn form s at end ≡ []
@@ -60,7 +61,7 @@ module _ (kind : ℕ) (s : List ℕ) (start end at : ℕ) (inv : Run readSubtree
           subtrees = inv;
           texts = left;
           any-there =
-              rw (← left, texts-step (formOf kind) s at end n m q, lt-ltb at end more, text-there kind s b n h (step-fits readSubtree s at end inv more n n-is) r r-is m p k);
+              rw (← left, texts-step (formOf kind) s at end n m q, lt-ltb at end more, text-there (formOf kind .text) s b n r r-is m p (form-own kind) h (step-fits readSubtree s at end inv more n n-is) k);
         }
 
     -- it is of another, and is passed over
@@ -68,7 +69,7 @@ module _ (kind : ℕ) (s : List ℕ) (start end at : ℕ) (inv : Run readSubtree
     unfolding SameTexts
     narrow-next k =
         with-subtree s at end inv more n n-is b b-is λ m h p q.
-        rw (texts-step (formOf kind) s at end n m q, text-not-there kind s b n h (step-fits readSubtree s at end inv more n n-is) r r-is m p k) at left
+        rw (texts-step (formOf kind) s at end n m q, text-not-there (formOf kind .text) s b n r r-is m p k) at left
 
 -- ---- meeting a subtree
 
