@@ -9,7 +9,7 @@ ghost use Rattle.rules.specs.Names.{is, star, dot, domain, dnsId, dnsMatches, d
 ghost use Rattle.dns.specs.Wildcard.{wildDomain, pastFirst, wildMatches};
 
 // Whether s begins with "*.".
-fn begins_wild(s: &[u8]) -> bool
+pub fn begins_wild(s: &[u8]) -> bool
     ensures { λ r. ⌜ r ≡ begins (star ∷ dot ∷ []) (now (s .entry)) ⌝ }
 {
     if s.len() < 2 {
