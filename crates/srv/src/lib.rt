@@ -2,7 +2,7 @@
 ghost use mathlib.Core.Path.{_≡_};
 ghost use mathlib.Core.Bool.{true, false};
 ghost use mathlib.Core.List.{[], _∷_};
-ghost use Prim.Native.Nat.{_≤_};
+ghost use Prim.Native.Nat.{_<_, _≤_};
 ghost use lib.ListN.{length};
 ghost use Rattle.rules.specs.Bytes.{any, before, begins};
 ghost use Rattle.rules.specs.Names.{dot, is, underscore, sameText, serviceOf, srvId, srvMatches, inSubtree};
@@ -64,48 +64,58 @@ pub fn restriction(s: &[u8]) -> bool
     names::domain(s)
 }
 
-// Whether what follows the underscore is a service and a domain that are the reference's. The lengths leave one place for
-// the dot; what is the same is looked at again only to see that it is a service and a domain.
+// Whether what follows the underscore is the service and the domain of a reference, with the dot in the place that the service leaves. A
+// text that is a service or a domain without case is one, and is not looked at again.
 fn parts_match(service: &[u8], domain: &[u8], rest: &[u8]) -> bool
+    requires { ⌜ rules.service (now service) ≡ true ⌝ }
+    requires { ⌜ rules.domain (now domain) ≡ true ⌝ }
+    requires { ⌜ length (now service) < length (now rest) ⌝ }
     ensures { λ r. ⌜ r ≡ partsMatch (now (service .entry)) (now (domain .entry)) (now (rest .entry)) ⌝ }
 {
     let n = service.len();
-    if rest.len() <= n {
-        return false;
-    }
-    if rest.len() - n - 1 != domain.len() {
-        return false;
-    }
     if rest[n] != 0x2E {
         return false;
     }
-    let start = &rest[..n];
+    let same = octets::same_text(&rest[..n], service);
+    if !same {
+        return false;
+    }
     let end = octets::from(rest, n + 1);
-    let same_service = octets::same_text(start, service);
-    if !same_service {
-        return false;
-    }
-    let same_domain = octets::same_text(end, domain);
-    if !same_domain {
-        return false;
-    }
-    let good = names::service(start);
-    if !good {
-        return false;
-    }
-    names::domain(end)
+    octets::same_text(end, domain)
 }
 
-// "Service or scheme and domain must both match, without case."
+// "Service or scheme and domain must both match, without case": of a reference whose service and domain are good. Lengths come first.
+pub fn service_matches(service: &[u8], domain: &[u8], text: &[u8]) -> bool
+    requires { ⌜ rules.service (now service) ≡ true ⌝ }
+    requires { ⌜ rules.domain (now domain) ≡ true ⌝ }
+    ensures { λ r. ⌜ r ≡ srvMatches (now (service .entry)) (now (domain .entry)) (now (text .entry)) ⌝ }
+{
+    let n = service.len() + 2;
+    if text.len() < n {
+        return false;
+    }
+    if text.len() - n != domain.len() {
+        return false;
+    }
+    if text[0] != 0x5F {
+        return false;
+    }
+    parts_match(service, domain, octets::from(text, 1))
+}
+
+// The same of any reference: one whose service or domain is not good matches nothing.
 pub fn srv_matches(service: &[u8], domain: &[u8], text: &[u8]) -> bool
     ensures { λ r. ⌜ r ≡ srvMatches (now (service .entry)) (now (domain .entry)) (now (text .entry)) ⌝ }
 {
-    let underscore = underscored(text);
-    if underscore {
-        let rest = octets::from(text, 1);
-        return parts_match(service, domain, rest);
+    let good_service = names::service(service);
+    if !good_service {
+        return false;
     }
-    false
+    let good_domain = names::domain(domain);
+    if !good_domain {
+        return false;
+    }
+    service_matches(service, domain, text)
 }
 
 // Whether a service without a dot is the one that an SRVName gives.
