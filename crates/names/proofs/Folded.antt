@@ -1,12 +1,12 @@
 -- Folding a text changes nothing of whether it is a domain, a service or a scheme: a text that is the same as one without case is one.
 use Prim.Native.Nat.{ℕ, _+_, _-_, _<_}
 use mathlib.Core.Path.{_≡_, refl, sym, ap, _∙_}
-use mathlib.Core.Bool.{Bool, true, or-true}
+use mathlib.Core.Bool.{Bool, true, false, not, or-true}
 use mathlib.Core.List.{List, [], _∷_, map}
 use native.Mathlib.Omega.{arith}
 use lib.ListN.{length, getD, length-map, List·getD-map}
 use lib.Dec.{eqb}
-use borrow.Author.Tests.{ne-eqb, le-leb, lt-leb}
+use borrow.Author.Tests.{not-false, ne-eqb, le-leb, lt-leb}
 use Rattle.rules.proofs.Cases.{by-cases}
 use Rattle.octets.proofs.Classes.{lower-cases}
 use Rattle.octets.proofs.Compare.{text-is, same-equal}
@@ -114,3 +114,7 @@ same-services a b e = kept service service-folded a b e
 
 pub same-schemes : (a b : List ℕ) → sameText a b ≡ true → scheme a ≡ scheme b
 same-schemes a b e = kept scheme scheme-folded a b e
+
+-- what a call may ask for, where it was tested before
+pub tested : (t r : Bool) → r ≡ t → not r ≡ false → t ≡ true
+tested t r e f = sym e ∙ not-false r f

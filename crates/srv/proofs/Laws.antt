@@ -1,6 +1,7 @@
 -- The laws that the functions' proofs search.
 use lib.Seq.{length-take-le}
 use Rattle.octets.proofs.Parts.{within-long}
+use Rattle.names.proofs.Folded.{tested}
 use Rattle.srv.proofs.Prefixed
 use Rattle.srv.proofs.Match
 use Rattle.srv.proofs.Subtree
@@ -28,8 +29,7 @@ pub ruleset laws = (
   Match.match-rest,
   Match.match-no-service,
   Match.match-no-domain,
-  Match.good-service,
-  Match.good-domain,
+  tested,
   Match.rest-long,
   Subtree.id-dot,
   Subtree.id-first,

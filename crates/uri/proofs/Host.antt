@@ -1,4 +1,4 @@
--- A host and its port, and a host that is compared with a reference's domain before it is judged.
+-- A host and its port, and a host that is compared with a reference's domain.
 use Prim.Native.Nat.{ℕ, _+_, _<_, _≤_}
 use mathlib.Core.Path.{_≡_, sym, ap, _∙_}
 use mathlib.Core.Bool.{Bool, true, false, not, and-true}
@@ -7,13 +7,14 @@ use native.Mathlib.Omega.{arith}
 use lib.ListN.{length, getD, take, drop}
 use lib.Seq.{take-all, length-take-le}
 use borrow.Author.Tests.{eq-eqb, eqb-true, not-true, not-false}
-use Rattle.octets.proofs.Cases.{by-cases, and-left, and-right, fails, clash}
+use Rattle.octets.proofs.Cases.{and-left, and-right, fails, clash}
 use Rattle.octets.proofs.Compare.{text-length}
 use Rattle.octets.proofs.Cut.{before-within, before-whole}
 use Rattle.octets.proofs.Place.{part-before, part-after, none-after, passes-at, before-at}
 use Rattle.rules.specs.Bytes.{all, before, after}
 use Rattle.rules.specs.Names.{is, colon, digit, domain, sameText}
 use Rattle.names.proofs.Free.{domain-no-colon}
+use Rattle.names.proofs.Folded.{same-domains}
 use Rattle.uri.specs.Parts.{hosted, hostMatches}
 
 -- ---- judged: the colon is at n
@@ -45,10 +46,12 @@ module _ (d h : List ℕ) where
     unfolding hostMatches
     host-same = search (and-left, and-right)
 
-    -- the host is a domain
-    is-domain : domain (before (is colon) h) ≡ true
+    -- the host is a domain, and so is the reference's
+    pub is-domain : domain d ≡ true
     unfolding hostMatches hosted
-    is-domain = search (and-left, and-right)
+    is-domain =
+        let one : domain (before (is colon) h) ≡ true = search (and-left, and-right) in
+        sym (same-domains (before (is colon) h) d host-same) ∙ one
 
     -- it ends where the domain of the reference does
     place : length d ≡ length (before (is colon) h)
@@ -72,34 +75,33 @@ module _ (d h : List ℕ) where
       let m : length d < length h = omega arith in
       fails _ (λ e. n (eqb-true _ _ (passes-at (is colon) h (length d) (place e) m)))
 
-  -- no domain
-  pub host-no-domain : (r : Bool) → r ≡ domain (take (length d) h) → not r ≡ true → false ≡ hostMatches d h
-  host-no-domain r f k = fails _ (λ e. clash (is-domain e) (rw (← host-part e) (sym f ∙ not-true r k)))
+  -- the host was compared with a domain, and is one
+  module _ (good : domain d ≡ true) (s : Bool) (is-s : s ≡ sameText (take (length d) h) d) (same : not s ≡ false) where
+    is-same : sameText (take (length d) h) d ≡ true
+    is-same = sym is-s ∙ not-false s same
 
-  -- s says that the host is the same, r that it is a domain
-  module _ (s r : Bool) (is-s : s ≡ sameText (take (length d) h) d) (is-r : r ≡ domain (take (length d) h)) (same : not s ≡ false) where
+    is-good : domain (take (length d) h) ≡ true
+    is-good = same-domains (take (length d) h) d is-same ∙ good
+
     -- nothing follows: a domain holds no colon
-    pub host-alone : length h ≡ length d → r ≡ hostMatches d h
+    pub host-alone : length h ≡ length d → true ≡ hostMatches d h
     unfolding hostMatches hosted
     host-alone k =
-        by-cases r
-        (λ e.
         let t : take (length d) h ≡ h = take-all (length d) h (omega arith) in
-        let q : domain h ≡ true = rw t at (sym is-r ∙ e) in
-        let o : sameText h d ≡ true = rw t at (sym is-s ∙ not-false s same) in
+        let q : domain h ≡ true = rw t at is-good in
+        let o : sameText h d ≡ true = rw t at is-same in
         let b : before (is colon) h ≡ h = before-whole (is colon) h (domain-no-colon h q) in
         let a : after (is colon) h ≡ [] = none-after (is colon) h (length h) (sym (ap length b)) (omega arith) in
-        e ∙ sym (rw (b, a, q, o)))
-        (λ e. e ∙ host-no-domain r is-r (rw e))
+        sym (rw (b, a, q, o))
 
     -- a colon follows, and the port decides
     pub host-ported : (port : List ℕ) (p : Bool) → port ≡ drop (length d + 1) h → p ≡ all digit port → length d ≤ length h
-        → (length h ≡ length d → ⊥) → getD h (length d) 0 ≡ 0x3A → not r ≡ false → p ≡ hostMatches d h
+        → (length h ≡ length d → ⊥) → getD h (length d) 0 ≡ 0x3A → p ≡ hostMatches d h
     unfolding hostMatches hosted
-    host-ported port p f g k l c e =
+    host-ported port p f g k l c =
         let m : length d < length h = omega arith in
         let b : before (is colon) h ≡ take (length d) h =
-        before-at (is colon) h (length d) m (domain-no-colon (take (length d) h) (sym is-r ∙ not-false r e)) (eq-eqb _ _ c) in
+        before-at (is colon) h (length d) m (domain-no-colon (take (length d) h) is-good) (eq-eqb _ _ c) in
         let n : length d ≡ length (before (is colon) h) = sym (ap length b ∙ length-take-le (length d) h k) in
         let a : after (is colon) h ≡ port = sym (part-after (is colon) h (length d) n) ∙ sym f in
-        g ∙ rw (b, a, ← is-r, not-false r e, ← is-s, not-false s same) (simp and-true)
+        g ∙ rw (b, a, is-good, is-same) (simp and-true)

@@ -1,6 +1,7 @@
 -- The laws that the functions' proofs search.
 use lib.Seq.{length-take-le}
 use Rattle.octets.proofs.Parts.{within-long}
+use Rattle.names.proofs.Folded.{tested}
 use Rattle.uri.proofs.Authority
 use Rattle.uri.proofs.Host
 use Rattle.uri.proofs.Uri
@@ -25,7 +26,6 @@ pub ruleset laws = (
   Host.host-short,
   Host.host-other,
   Host.host-no-colon,
-  Host.host-no-domain,
   Host.host-alone,
   Host.host-ported,
   Uri.slashed-short,
@@ -40,6 +40,8 @@ pub ruleset laws = (
   Uri.match-no-colon,
   Uri.match-other-scheme,
   Uri.match-no-slashes,
-  Uri.match-other-host,
-  Uri.match-scheme,
+  Uri.match-host,
+  Uri.match-no-scheme,
+  Uri.match-no-domain,
+  tested,
 )

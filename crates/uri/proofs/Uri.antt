@@ -1,4 +1,4 @@
--- URI-IDs by the place of the first colon, and a scheme that is compared with the reference's before it is judged.
+-- URI-IDs by the place of the first colon, and what matches a reference whose scheme and domain are good.
 use Prim.Native.Nat.{ℕ, _+_, _<_, _≤_}
 use mathlib.Core.Path.{_≡_, refl, sym, ap, _∙_}
 use mathlib.Core.Bool.{Bool, true, false, not, _&&_, and-true, and-false, and-assoc, and-comm}
@@ -15,7 +15,9 @@ use Rattle.rules.specs.Bytes.{all, begins, before, after}
 use Rattle.rules.specs.Names.{is, colon, slash, digit, sameText, domain, scheme, schemeOf, authorityOf, hostAndPort, hostOf, portOf, uriId, uriMatches}
 use Rattle.names.proofs.Free.{scheme-no-colon}
 use Rattle.names.proofs.Labels.{same-domain}
+use Rattle.names.proofs.Folded.{same-schemes}
 use Rattle.uri.specs.Parts.{hostPort, hosted, hostMatches}
+use Rattle.uri.proofs.Host.{is-domain}
 
 -- the two bytes
 abbrev slashes : List ℕ
@@ -165,34 +167,25 @@ module _ (a d s : List ℕ) where
     pub match-no-slashes : m ≡ false → false ≡ uriMatches a d s
     match-no-slashes h = fails _ (λ e. clash (is-slashed e) (rw (← tail-after e) (sym is-m ∙ h)))
 
-    module _ (rest h : List ℕ) (r : Bool) (is-rest : rest ≡ drop 2 tail) (is-h : h ≡ hostPort rest) (is-r : r ≡ hostMatches d h) where
-      -- another host
-      pub match-other-host : r ≡ false → false ≡ uriMatches a d s
-      match-other-host k =
-          fails _ (λ e. clash (is-host e) (rw (← tail-after e, ← is-rest, ← is-h) (sym is-r ∙ k)))
+    -- the same scheme and "//": the host decides
+    pub match-host : scheme a ≡ true → (q : Bool) → q ≡ sameText (take (length a) s) a → not q ≡ false → length a < length s
+        → getD s (length a) 0 ≡ 0x3A → m ≡ true → (rest h : List ℕ) (r : Bool) → rest ≡ drop 2 tail → h ≡ hostPort rest → r ≡ hostMatches d h
+        → r ≡ uriMatches a d s
+    match-host good q is-q o l c n rest h r is-rest is-h is-r =
+        let same : sameText (take (length a) s) a ≡ true = sym is-q ∙ not-false q o in
+        let known : scheme (take (length a) s) ≡ true = same-schemes (take (length a) s) a same ∙ good in
+        let b : before (is colon) s ≡ take (length a) s =
+        before-at (is colon) s (length a) l (scheme-no-colon (take (length a) s) known) (eq-eqb _ _ c) in
+        let at : length a ≡ length (before (is colon) s) = sym (ap length b ∙ length-take-le (length a) s (omega arith)) in
+        sym (match-is s a d
+        ∙ rw (← scheme-is s (length a) at, ← tail-is s (length a) at, ← is-tail, ← is-m, n, ← is-rest, ← is-h, ← is-r, known, same)
+        (and-true r))
 
-      -- all is the same, and whether the scheme is one decides
-      pub match-scheme : (q t : Bool) → q ≡ sameText (take (length a) s) a → t ≡ scheme (take (length a) s) → length a < length s
-          → getD s (length a) 0 ≡ 0x3A → not q ≡ false → m ≡ true → r ≡ true → t ≡ uriMatches a d s
-      match-scheme q t is-q is-t l c o n k =
-          by-cases t
-          (λ e.
-          let b : before (is colon) s ≡ take (length a) s =
-          before-at (is colon) s (length a) l (scheme-no-colon (take (length a) s) (sym is-t ∙ e)) (eq-eqb _ _ c) in
-          let at : length a ≡ length (before (is colon) s) = sym (ap length b ∙ length-take-le (length a) s (omega arith)) in
-          sym (match-is s a d
-          ∙ rw (
-            ← scheme-is s (length a) at,
-            ← tail-is s (length a) at,
-            ← is-tail,
-            ← is-m,
-            n,
-            ← is-rest,
-            ← is-h,
-            ← is-r,
-            k,
-            ← is-t,
-            ← is-q,
-            not-false q o,
-          ) (and-true t)))
-          (λ e. e ∙ fails _ (λ f. clash (is-scheme f) (rw (← scheme-is s (length a) (place f)) (sym is-t ∙ e))))
+  -- a reference that is not good
+  pub match-no-scheme : (r : Bool) → r ≡ scheme a → not r ≡ true → false ≡ uriMatches a d s
+  match-no-scheme r f h =
+      fails _ (λ e. clash (sym (same-schemes (schemeOf s) a (scheme-same e)) ∙ is-scheme e) (sym f ∙ not-true r h))
+
+  pub match-no-domain : (r : Bool) → r ≡ domain d → not r ≡ true → false ≡ uriMatches a d s
+  match-no-domain r f h =
+      fails _ (λ e. clash (is-domain d (hostPort (drop 2 (after (is colon) s))) (is-host e)) (sym f ∙ not-true r h))

@@ -1,10 +1,12 @@
 // URI-IDs, and what they match.
 ghost use mathlib.Core.Path.{_≡_};
+ghost use mathlib.Core.Bool.{true};
 ghost use mathlib.Core.List.{[], _∷_};
 ghost use Prim.Native.Nat.{_≤_};
 ghost use lib.ListN.{length};
 ghost use Rattle.rules.specs.Bytes.{before, begins};
 ghost use Rattle.rules.specs.Names.{slash, uriId, uriMatches};
+ghost use Rattle.rules.specs.Names as rules;
 ghost use Rattle.uri.specs.Parts as spec;
 
 // Whether a text begins with "//".
@@ -106,35 +108,35 @@ pub fn uri_id(s: &[u8]) -> bool
     false
 }
 
-// Whether the host is the reference's domain. What is the same is looked at again only to see that it is a domain.
+// Whether the host is the domain of a reference, with nothing or a port after it. A text that is a domain without case is one, and is not
+// looked at again.
 fn host_matches(domain: &[u8], h: &[u8]) -> bool
+    requires { ⌜ rules.domain (now domain) ≡ true ⌝ }
     ensures { λ r. ⌜ r ≡ spec.hostMatches (now (domain .entry)) (now (h .entry)) ⌝ }
 {
     let n = domain.len();
     if h.len() < n {
         return false;
     }
-    let host = &h[..n];
-    let same = octets::same_text(host, domain);
+    let same = octets::same_text(&h[..n], domain);
     if !same {
         return false;
     }
     if h.len() == n {
-        return names::domain(host);
+        return true;
     }
     if h[n] != 0x3A {
-        return false;
-    }
-    let good = names::domain(host);
-    if !good {
         return false;
     }
     let port = octets::from(h, n + 1);
     octets::digits(port)
 }
 
-// "Service or scheme and domain must both match, without case."
-pub fn uri_matches(scheme: &[u8], domain: &[u8], text: &[u8]) -> bool
+// "Service or scheme and domain must both match, without case": of a reference whose scheme and domain are good. The lengths leave one
+// place for the colon.
+pub fn scheme_matches(scheme: &[u8], domain: &[u8], text: &[u8]) -> bool
+    requires { ⌜ rules.scheme (now scheme) ≡ true ⌝ }
+    requires { ⌜ rules.domain (now domain) ≡ true ⌝ }
     ensures { λ r. ⌜ r ≡ uriMatches (now (scheme .entry)) (now (domain .entry)) (now (text .entry)) ⌝ }
 {
     let n = scheme.len();
@@ -144,8 +146,7 @@ pub fn uri_matches(scheme: &[u8], domain: &[u8], text: &[u8]) -> bool
     if text[n] != 0x3A {
         return false;
     }
-    let start = &text[..n];
-    let same = octets::same_text(start, scheme);
+    let same = octets::same_text(&text[..n], scheme);
     if !same {
         return false;
     }
@@ -154,11 +155,22 @@ pub fn uri_matches(scheme: &[u8], domain: &[u8], text: &[u8]) -> bool
     if slashes {
         let rest = octets::from(tail, 2);
         let h = host_and_port(rest);
-        let there = host_matches(domain, h);
-        if there {
-            return names::scheme(start);
-        }
-        return false;
+        return host_matches(domain, h);
     }
     false
+}
+
+// The same of any reference: one whose scheme or domain is not good matches nothing.
+pub fn uri_matches(scheme: &[u8], domain: &[u8], text: &[u8]) -> bool
+    ensures { λ r. ⌜ r ≡ uriMatches (now (scheme .entry)) (now (domain .entry)) (now (text .entry)) ⌝ }
+{
+    let good_scheme = names::scheme(scheme);
+    if !good_scheme {
+        return false;
+    }
+    let good_domain = names::domain(domain);
+    if !good_domain {
+        return false;
+    }
+    scheme_matches(scheme, domain, text)
 }

@@ -4,82 +4,66 @@ use Rattle.uri.proofs.host_matches.Statement.{statement}
 use Rattle.uri.proofs.host_matches.Tie as tie
 use Rattle.uri.proofs.host_matches.Reads as reads
 use Rattle.uri.proofs.host_matches.Lts as lts
-use Rattle.names.proofs.domain.Reads as domain-reads
+use Rattle.octets.proofs.digits.Reads as digits-reads
 use Rattle.octets.proofs.from.Reads as from-reads
 use Rattle.octets.proofs.same_text.Reads as same-text-reads
-use Rattle.octets.proofs.digits.Reads as digits-reads
 
--- src/lib.rt:115:9
+-- src/lib.rt:119:9
 returns : tie.Need-returns
 returns c = search (needs, laws)
 
--- src/lib.rt:117:9
-slice-aggregate-host : tie.Need-slice-aggregate-host
-slice-aggregate-host c = search (needs, laws)
+-- src/lib.rt:121:34
+slice-aggregate-same-text : tie.Need-slice-aggregate-same-text
+slice-aggregate-same-text c = search (needs, laws)
 
--- src/lib.rt:118:9
+-- src/lib.rt:121:9
 same-text-requires : tie.Need-same-text-requires
 same-text-requires c κs = search needs
 
--- src/lib.rt:120:9
+-- src/lib.rt:123:9
 returns-2 : tie.Need-returns-2
 returns-2 c = search (needs, laws)
 
--- src/lib.rt:123:9
-domain-requires : tie.Need-domain-requires
-domain-requires c κs = search needs
-
--- src/lib.rt:123:9
+-- src/lib.rt:126:9
 returns-3 : tie.Need-returns-3
 returns-3 c = search (needs, laws)
 
--- src/lib.rt:125:8
+-- src/lib.rt:128:8
 shared-slice-read-if4 : tie.Need-shared-slice-read-if4
 shared-slice-read-if4 c = search needs
 
--- src/lib.rt:126:9
+-- src/lib.rt:129:9
 returns-4 : tie.Need-returns-4
 returns-4 c = search (needs, laws)
 
--- src/lib.rt:128:9
-domain-requires-2 : tie.Need-domain-requires-2
-domain-requires-2 c κs = search needs
-
--- src/lib.rt:130:9
-returns-5 : tie.Need-returns-5
-returns-5 c = search (needs, laws)
-
--- src/lib.rt:132:32
+-- src/lib.rt:131:32
 add-from : tie.Need-add-from
 add-from c = search needs
 
--- src/lib.rt:132:9
+-- src/lib.rt:131:9
 from-requires : tie.Need-from-requires
 from-requires c κs = search needs
 
--- src/lib.rt:133:5
+-- src/lib.rt:132:5
 digits-requires : tie.Need-digits-requires
 digits-requires c κs = search needs
 
--- src/lib.rt:110:1
-returns-6 : tie.Need-returns-6
-returns-6 c = search (needs, laws)
+-- src/lib.rt:113:1
+returns-5 : tie.Need-returns-5
+returns-5 c = search (needs, laws)
 
 pub host-matches-spec : {M : Type 1} → statement M
 host-matches-spec =
     tie.close
     (tie.spec
     returns
-    slice-aggregate-host
+    slice-aggregate-same-text
     same-text-requires
     returns-2
-    domain-requires
     returns-3
     shared-slice-read-if4
     returns-4
-    domain-requires-2
-    returns-5
     add-from
     from-requires
     digits-requires
-    returns-6)
+    returns-5)

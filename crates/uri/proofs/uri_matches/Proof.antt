@@ -4,94 +4,35 @@ use Rattle.uri.proofs.uri_matches.Statement.{statement}
 use Rattle.uri.proofs.uri_matches.Tie as tie
 use Rattle.uri.proofs.uri_matches.Reads as reads
 use Rattle.uri.proofs.uri_matches.Lts as lts
+use Rattle.names.proofs.domain.Reads as domain-reads
 use Rattle.names.proofs.scheme.Reads as scheme-reads
-use Rattle.octets.proofs.from.Reads as from-reads
-use Rattle.octets.proofs.same_text.Reads as same-text-reads
-use Rattle.uri.proofs.host_and_port.Reads as host-and-port-reads
-use Rattle.uri.proofs.host_matches.Reads as host-matches-reads
-use Rattle.uri.proofs.slashed.Reads as slashed-reads
+use Rattle.uri.proofs.scheme_matches.Reads as scheme-matches-reads
 
--- src/lib.rt:142:9
-returns : tie.Need-returns
-returns c = search (needs, laws)
-
--- src/lib.rt:144:8
-shared-slice-read-if2 : tie.Need-shared-slice-read-if2
-shared-slice-read-if2 c = search needs
-
--- src/lib.rt:145:9
-returns-2 : tie.Need-returns-2
-returns-2 c = search (needs, laws)
-
--- src/lib.rt:147:9
-slice-aggregate-start : tie.Need-slice-aggregate-start
-slice-aggregate-start c = search (needs, laws)
-
--- src/lib.rt:148:9
-same-text-requires : tie.Need-same-text-requires
-same-text-requires c κs = search needs
-
--- src/lib.rt:150:9
-returns-3 : tie.Need-returns-3
-returns-3 c = search (needs, laws)
-
--- src/lib.rt:152:35
-add-from : tie.Need-add-from
-add-from c = search needs
-
--- src/lib.rt:152:9
-from-requires : tie.Need-from-requires
-from-requires c κs = search needs
-
--- src/lib.rt:153:9
-slashed-requires : tie.Need-slashed-requires
-slashed-requires c κs = search needs
-
--- src/lib.rt:155:13
-from-requires-2 : tie.Need-from-requires-2
-from-requires-2 c κs = search (needs, laws)
-
--- src/lib.rt:156:13
-host-and-port-requires : tie.Need-host-and-port-requires
-host-and-port-requires c κs = search needs
-
--- src/lib.rt:157:13
-host-matches-requires : tie.Need-host-matches-requires
-host-matches-requires c κs = search needs
-
--- src/lib.rt:159:13
+-- src/lib.rt:167:9
 scheme-requires : tie.Need-scheme-requires
 scheme-requires c κs = search needs
 
--- src/lib.rt:159:13
-returns-4 : tie.Need-returns-4
-returns-4 c = search (needs, laws)
+-- src/lib.rt:169:9
+returns : tie.Need-returns
+returns c = search (needs, laws)
 
--- src/lib.rt:161:9
-returns-5 : tie.Need-returns-5
-returns-5 c = search (needs, laws)
+-- src/lib.rt:171:9
+domain-requires : tie.Need-domain-requires
+domain-requires c κs = search needs
 
--- src/lib.rt:137:1
-returns-6 : tie.Need-returns-6
-returns-6 c = search (needs, laws)
+-- src/lib.rt:173:9
+returns-2 : tie.Need-returns-2
+returns-2 c = search (needs, laws)
+
+-- src/lib.rt:175:5
+scheme-matches-requires : tie.Need-scheme-matches-requires
+scheme-matches-requires c κs = search (needs, laws)
+
+-- src/lib.rt:164:1
+returns-3 : tie.Need-returns-3
+returns-3 c = search needs
 
 pub uri-matches-spec : {M : Type 1} → statement M
 uri-matches-spec =
     tie.close
-    (tie.spec
-    returns
-    shared-slice-read-if2
-    returns-2
-    slice-aggregate-start
-    same-text-requires
-    returns-3
-    add-from
-    from-requires
-    slashed-requires
-    from-requires-2
-    host-and-port-requires
-    host-matches-requires
-    scheme-requires
-    returns-4
-    returns-5
-    returns-6)
+    (tie.spec scheme-requires returns domain-requires returns-2 scheme-matches-requires returns-3)
