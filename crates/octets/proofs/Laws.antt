@@ -96,6 +96,7 @@ pub ruleset laws = (
   Texts.whole-few,
   Texts.whole-differ,
   Texts.whole-next,
+  Texts.whole-last,
   Texts.whole-end,
   find-begin,
   find-here,

@@ -129,17 +129,23 @@ module _ (a b : List ℕ) (n : ℕ) (a-long : n ≡ length a) (b-long : n ≡ le
   pub whole-few : (r : Bool) → r ≡ samePart a b 0 n → r ≡ sameText a b
   whole-few r e = e ∙ part-whole a b n a-long b-long
 
-  module _ (last at : ℕ) (is-last : last + 8 ≡ n) (inv : PartLeft a b 0 n at) where
-    module _ (within : at < last) (same : Bool) (is-same : same ≡ samePart a b at (at + 8)) where
-      pub whole-differ : not same ≡ true → false ≡ sameText a b
-      whole-differ e =
-          part-stop a b 0 n (omega arith) (omega arith) at inv (at + 8) (omega arith) (omega arith) (sym is-same ∙ not-true same e)
-          ∙ part-whole a b n a-long b-long
+  module _ (last at : ℕ) (is-last : last + 8 ≡ n) (inv : PartLeft a b 0 n at) (within : at ≤ last) (same : Bool) (is-same : same ≡ samePart a b at (at + 8)) where
+    pub whole-differ : not same ≡ true → false ≡ sameText a b
+    whole-differ e =
+        part-stop a b 0 n (omega arith) (omega arith) at inv (at + 8) (omega arith) (omega arith) (sym is-same ∙ not-true same e)
+        ∙ part-whole a b n a-long b-long
 
-      pub whole-next : not same ≡ false → PartLeft a b 0 n (at + 8)
-      whole-next e =
-          part-past a b 0 n (omega arith) (omega arith) at inv (at + 8) (omega arith) (omega arith) (sym is-same ∙ not-false same e)
+    pub whole-next : not same ≡ false → PartLeft a b 0 n (at + 8)
+    whole-next e =
+        part-past a b 0 n (omega arith) (omega arith) at inv (at + 8) (omega arith) (omega arith) (sym is-same ∙ not-false same e)
 
-    pub whole-end : last ≤ at → at ≤ n → (r : Bool) → r ≡ samePart a b last (last + 8) → r ≡ sameText a b
-    whole-end h k r e =
-        e ∙ rw is-last (part-final a b 0 n (omega arith) (omega arith) at inv last (omega arith) h k) ∙ part-whole a b n a-long b-long
+    -- the last eight: those of them that were compared before are compared again
+    pub whole-last : not same ≡ false → last < at + 8 → PartLeft a b 0 n last
+    unfolding PartLeft
+    whole-last e h =
+        rw (part-none a b 0 0 (omega arith))
+        (part-final a b 0 n (omega arith) (omega arith) (at + 8) (whole-next e) last (omega arith) (omega arith) (omega arith))
+
+    pub whole-end : not same ≡ false → last ≤ at → true ≡ sameText a b
+    whole-end e h =
+        few-end a b 0 n (omega arith) (omega arith) (at + 8) (whole-next e) (omega arith) ∙ part-whole a b n a-long b-long

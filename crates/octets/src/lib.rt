@@ -157,7 +157,8 @@ fn same_word(a: &[u8], b: &[u8], at: usize) -> bool
     same_few(a, b, at, at + 8)
 }
 
-// Whether two texts are the same without case: eight bytes at a time, and the last eight again, left at the first eight that differ.
+// Whether two texts are the same without case: eight bytes at a time, at the end the last eight, left at the first eight that differ.
+// `same_word` has one call, so that the compiler writes it into the loop.
 pub fn same_text(a: &[u8], b: &[u8]) -> bool
     ensures { λ r. ⌜ r ≡ sameText (now (a .entry)) (now (b .entry)) ⌝ }
 {
@@ -170,14 +171,19 @@ pub fn same_text(a: &[u8], b: &[u8]) -> bool
     }
     let last = n - 8;
     let mut k = 0;
-    while k < last {
+    loop {
         let same = same_word(a, b, k);
         if !same {
             return false;
         }
+        if last <= k {
+            return true;
+        }
         k += 8;
+        if last < k {
+            k = last;
+        }
     }
-    same_word(a, b, last)
 }
 
 // The index of the first b, or the length where there is none.

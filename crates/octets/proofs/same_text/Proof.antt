@@ -12,10 +12,10 @@ use Rattle.octets.proofs.same_few.Reads as same-few-reads
 use Rattle.octets.proofs.same_word.Reads as same-word-reads
 
 abbrev Inv-loop : tie.InvT-loop
-Inv-loop a b n last k₀ k = (n ≡ length a) × (n ≡ length b) × (last + 8 ≡ n) × (k ≤ n) × PartLeft a b 0 n k
+Inv-loop a b n last k₀ k = (n ≡ length a) × (n ≡ length b) × (last + 8 ≡ n) × (k ≤ last) × PartLeft a b 0 n k
 
 abbrev μ-loop : tie.MeasureT-loop
-μ-loop a b n last k₀ k = n - k
+μ-loop a b n last k₀ k = last - k
 
 -- src/lib.rt:166:9
 returns : tie.Need-returns Inv-loop μ-loop
@@ -41,7 +41,11 @@ same-word-requires c κs = search (needs, laws)
 returns-3 : tie.Need-returns-3 Inv-loop μ-loop
 returns-3 c = search (needs, laws)
 
--- src/lib.rt:178:9
+-- src/lib.rt:179:13
+returns-4 : tie.Need-returns-4 Inv-loop μ-loop
+returns-4 c = search (needs, laws)
+
+-- src/lib.rt:181:9
 add-k : tie.Need-add-k Inv-loop μ-loop
 add-k c = search (needs, laws)
 
@@ -53,13 +57,13 @@ loop-less c = search (needs, laws)
 loop-again : tie.Need-loop-again Inv-loop μ-loop
 loop-again c = search (needs, laws)
 
--- src/lib.rt:180:5
-same-word-requires-2 : tie.Need-same-word-requires-2 Inv-loop μ-loop
-same-word-requires-2 c κs = search (needs, laws)
+-- src/lib.rt:173:5
+loop-less-2 : tie.Need-loop-less-2 Inv-loop μ-loop
+loop-less-2 c = search (needs, laws)
 
--- src/lib.rt:161:1
-returns-4 : tie.Need-returns-4 Inv-loop μ-loop
-returns-4 c = search (needs, laws)
+-- src/lib.rt:173:5
+loop-again-2 : tie.Need-loop-again-2 Inv-loop μ-loop
+loop-again-2 c = search (needs, laws)
 
 pub same-text-spec : {M : Type 1} → statement M
 same-text-spec =
@@ -73,8 +77,9 @@ same-text-spec =
     loop-holds
     same-word-requires
     returns-3
+    returns-4
     add-k
     loop-less
     loop-again
-    same-word-requires-2
-    returns-4)
+    loop-less-2
+    loop-again-2)
