@@ -119,7 +119,7 @@ pub fn domain_matches(reference: &[u8], first: usize, text: &[u8]) -> bool
     if wild {
         return wild_matches(reference, first, &text[2..]);
     }
-    octets::same_text(text, reference)
+    octets::same_early(text, reference)
 }
 
 // "an empty text contains every name; any other text must be a domain, else 5"

@@ -98,6 +98,7 @@ pub ruleset laws = (
   Texts.whole-next,
   Texts.whole-last,
   Texts.whole-end,
+  Texts.whole-early,
   find-begin,
   find-here,
   find-next,

@@ -149,3 +149,10 @@ module _ (a b : List ℕ) (n : ℕ) (a-long : n ≡ length a) (b-long : n ≡ le
     pub whole-end : not same ≡ false → last ≤ at → true ≡ sameText a b
     whole-end e h =
         few-end a b 0 n (omega arith) (omega arith) (at + 8) (whole-next e) (omega arith) ∙ part-whole a b n a-long b-long
+
+  -- texts whose first eight bytes differ beyond the case
+  pub whole-early : 8 ≤ n → (x y : ℕ) → Number 8 a 0 x → Number 8 b 0 y → (bitOr x 0x2020202020202020 ≡ bitOr y 0x2020202020202020 → ⊥)
+      → false ≡ sameText a b
+  whole-early h x y p q d =
+      whole-differ (n - 8) 0 (omega arith) (part-begin a b 0 n) (omega arith) false
+      (word-differs a b 0 x y (omega arith) (omega arith) p q d) refl

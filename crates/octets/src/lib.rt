@@ -186,6 +186,25 @@ pub fn same_text(a: &[u8], b: &[u8]) -> bool
     }
 }
 
+// The same of a text that is held against many: one of another length, or whose first eight bytes differ beyond the case, is left before
+// `same_text` is called.
+pub fn same_early(a: &[u8], b: &[u8]) -> bool
+    ensures { λ r. ⌜ r ≡ sameText (now (a .entry)) (now (b .entry)) ⌝ }
+{
+    let n = a.len();
+    if n != b.len() {
+        return false;
+    }
+    if 8 <= n {
+        let x = words::word(a, 0) | CASE;
+        let y = words::word(b, 0) | CASE;
+        if x != y {
+            return false;
+        }
+    }
+    same_text(a, b)
+}
+
 // The index of the first b, or the length where there is none.
 pub fn find(s: &[u8], b: u8) -> usize
     ensures { λ r. ⌜ (r ≡ length (before (is b) (now (s .entry)))) × (r ≤ length (now (s .entry))) ⌝ }

@@ -4,7 +4,7 @@ use mathlib.Core.Path.{_≡_, refl}
 use mathlib.Core.Bool.{false}
 use Rattle.presented.specs.Presented.{shownAt}
 use Rattle.pairs.specs.Pairs.{witnessAt}
-use Rattle.pairs.proofs.References.{kind-room, kind-is, service-end, service-is, domain-end, domain-is, domain-good, text-srv, text-uri, text-dns, text-past, text-there, set-silent, set-text}
+use Rattle.pairs.proofs.References.{kind-room, kind-is, service-end, service-is, domain-end, domain-is, service-good, scheme-good, domain-good, text-srv, text-uri, text-dns, text-past, text-there, set-silent, set-text}
 
 pub witness-is : (i j at text next : ℕ)
     → record { reference = i; presented = j; element = record { start = at; length = next - at }; text = record { start = text; length = next - text }; subject = false }
@@ -20,6 +20,8 @@ pub ruleset laws = (
   service-is,
   domain-end,
   domain-is,
+  service-good,
+  scheme-good,
   domain-good,
   text-srv,
   text-uri,

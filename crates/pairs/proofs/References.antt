@@ -2,7 +2,7 @@
 use Prim.Native.Nat.{ℕ, zero, _+_, _-_, _*_, _/_, _%_, _≤_, _<_}
 use mathlib.Core.Path.{_≡_, sym, ap, _∙_}
 use mathlib.Core.Bool.{Bool, true, false, _&&_, _||_, true≢false}
-use mathlib.Core.List.{List}
+use mathlib.Core.List.{List, []}
 use native.Mathlib.Omega.{arith}
 use native.Mathlib.Nat.{add-zero}
 use lib.ListN.{length, getD, take, drop, length-take}
@@ -12,7 +12,7 @@ use borrow.Author.Tests.{ne-eqb, le-leb, lt-leb}
 use Rattle.rules.proofs.Cases.{by-cases, is-true, and-left, and-right}
 use Rattle.rules.specs.Bytes.{part, some?, all}
 use Rattle.rules.specs.Numbers.{recordSize, serviceLengthAt, domainLengthAt, serviceAt, serviceSize, domainAt, domainSize}
-use Rattle.rules.specs.Names.{domain, twoLabels, dnsMatches, srvMatches, uriMatches}
+use Rattle.rules.specs.Names.{domain, twoLabels, service, scheme, dnsMatches, srvMatches, uriMatches}
 use Rattle.rules.specs.Records.{Reference, reference, referenceOf, filled, goodService, goodReference, goodRecord, recordsOf, goodRecords}
 use Rattle.rules.specs.Matching.{textMatches}
 use Rattle.records.proofs.Split.{count-is, record-at, each-good, byte-at}
@@ -111,9 +111,17 @@ module _ (b : List ℕ) (i : ℕ) (h : i < length b / recordSize) where
 -- ---- a text held against a good reference
 
 module _ (kind : ℕ) (v d : List ℕ) (g : goodReference (reference kind v d) ≡ true) where
-  service-good : goodService kind v ≡ true
+  fit : goodService kind v ≡ true
   unfolding goodReference
-  service-good = and-left _ (domain d) (and-left (goodService kind v && domain d) (twoLabels d) g)
+  fit = and-left _ (domain d) (and-left (goodService kind v && domain d) (twoLabels d) g)
+
+  pub service-good : kind ≡ 2 → service v ≡ true
+  unfolding goodService
+  service-good e = rw e at fit
+
+  pub scheme-good : kind ≡ 3 → scheme v ≡ true
+  unfolding goodService
+  scheme-good e = rw e at fit
 
   pub domain-good : domain d ≡ true
   unfolding goodReference
@@ -135,30 +143,30 @@ module _ (kind : ℕ) (v d : List ℕ) (g : goodReference (reference kind v d) �
     unfolding textMatches goodService
     text-dns e f r-is =
         by-cases (eqb kind 1 || eqb kind 4) (λ q. r-is ∙ rw q)
-        (λ q. absurd (true≢false (sym service-good ∙ rw (q, ne-eqb kind 2 e, ne-eqb kind 3 f))))
+        (λ q. absurd (true≢false (sym fit ∙ rw (q, ne-eqb kind 2 e, ne-eqb kind 3 f))))
 
 -- ---- a text by its place
 
-module _ (r : Reference) (s : List ℕ) where
-  module _ (text end : ℕ) where
-    -- there is none
-    pub text-past : end < text → false ≡ textAt r s text end
-    unfolding textAt
-    text-past h = rw (lt-leb text end h)
+module _ (r : Reference) (s : List ℕ) (text end : ℕ) where
+  -- there is none
+  pub text-past : end < text → false ≡ textAt r s text end
+  unfolding textAt
+  text-past h = rw (lt-leb text end h)
 
-    pub text-there : text ≤ end → (q : Bool) → q ≡ textMatches r (take (end - text) (drop text s)) → q ≡ textAt r s text end
-    unfolding textAt part
-    text-there h q q-is = q-is ∙ rw (le-leb text end h)
+  pub text-there : text ≤ end → (q : Bool) → q ≡ textMatches r (take (end - text) (drop text s)) → q ≡ textAt r s text end
+  unfolding textAt part
+  text-there h q q-is = q-is ∙ rw (le-leb text end h)
 
-  module _ (e : Entry) where
-    -- a set that presents none
-    pub set-silent : e .presents ≡ false → false ≡ entryMatches r s e
-    unfolding entryMatches
-    set-silent f = rw f
+-- ---- a set of the subject
 
-    pub set-text : e .presents ≡ true → (q : Bool)
-        → q ≡ textMatches r (take (e .text .start + e .text .length - e .text .start) (drop (e .text .start) s)) → q ≡ entryMatches r s e
-    unfolding entryMatches part
-    set-text f q q-is =
-        let m : e .text .start + e .text .length - e .text .start ≡ e .text .length = omega arith in
-        q-is ∙ rw (f, m)
+module _ (d s : List ℕ) (e : Entry) where
+  pub set-silent : e .presents ≡ false → false ≡ entryMatches (reference 4 [] d) s e
+  unfolding entryMatches
+  set-silent f = rw f
+
+  pub set-text : e .presents ≡ true → (q : Bool)
+      → q ≡ dnsMatches d (take (e .text .start + e .text .length - e .text .start) (drop (e .text .start) s)) → q ≡ entryMatches (reference 4 [] d) s e
+  unfolding entryMatches textMatches part
+  set-text f q q-is =
+      let m : e .text .start + e .text .length - e .text .start ≡ e .text .length = omega arith in
+      q-is ∙ rw (f, m)

@@ -20,6 +20,7 @@ use rules::Witness;
 ghost use Prim.Native.Nat.{_+_, _≤_, _<_, _/_};
 ghost use mathlib.Core.Path.{_≡_};
 ghost use mathlib.Core.Bool.{true, false};
+ghost use mathlib.Core.List.{[]};
 ghost use lib.ListN.{length};
 ghost use Rattle.rules.specs.Bytes.{before};
 ghost use Rattle.rules.specs.Names.{dot, is};
@@ -73,17 +74,17 @@ fn domain_of(references: &[u8], i: usize) -> &[u8]
 }
 
 // Whether a text matches a good reference, whose domain has its first dot at `first`. "A reference matches only its own kind"; a good
-// kind that is neither SRV nor URI is DNS or CN.
+// kind that is neither SRV nor URI is DNS or CN. What is the same as a part of a good reference is not judged again.
 fn text_matches(kind: u8, service: &[u8], domain: &[u8], first: usize, text: &[u8]) -> bool
     requires { ⌜ goodReference (reference kind (now service) (now domain)) ≡ true ⌝ }
     requires { ⌜ (first ≡ length (before (is dot) (now domain))) × (first ≤ length (now domain)) ⌝ }
     ensures { λ r. ⌜ r ≡ textMatches (reference kind (now (service .entry)) (now (domain .entry))) (now (text .entry)) ⌝ }
 {
     if kind == SRV {
-        return srv::srv_matches(service, domain, text);
+        return srv::service_matches(service, domain, text);
     }
     if kind == URI {
-        return uri::uri_matches(service, domain, text);
+        return uri::scheme_matches(service, domain, text);
     }
     dns::domain_matches(domain, first, text)
 }
@@ -109,18 +110,16 @@ fn name_matches(
     text_matches(kind, service, domain, first, &s[text..end])
 }
 
-// Whether a set of the subject presents a text that a CN reference matches.
-fn set_matches(service: &[u8], domain: &[u8], first: usize, subject: &[u8], e: Entry) -> bool
-    requires { ⌜ goodReference (reference cnKind (now service) (now domain)) ≡ true ⌝ }
-    requires { ⌜ (first ≡ length (before (is dot) (now domain))) × (first ≤ length (now domain)) ⌝ }
+// Whether a set of the subject presents a text that matches the domain of a CN reference.
+fn set_matches(domain: &[u8], subject: &[u8], e: Entry) -> bool
     requires { ⌜ e .text .start + e .text .length ≤ length (now subject) ⌝ }
-    ensures { λ r. ⌜ r ≡ entryMatches (reference cnKind (now (service .entry)) (now (domain .entry))) (now (subject .entry)) e ⌝ }
+    ensures { λ r. ⌜ r ≡ entryMatches (reference cnKind [] (now (domain .entry))) (now (subject .entry)) e ⌝ }
 {
     if e.presents {
         let text = e.text;
         let start = text.start;
         let end = start + text.length;
-        return text_matches(CN, service, domain, first, &subject[start..end]);
+        return dns::dns_matches(domain, &subject[start..end]);
     }
     false
 }
@@ -135,14 +134,12 @@ fn first_cn(references: &[u8], i: usize, san: &[u8], subject: &[u8]) -> Held
     ensures { λ r. ⌜ r ≡ heldBy (foundFor i (referenceAt (now (references .entry)) i) (presentedTo cnKind (namesOf readSan (now (san .entry))) (namesOf readSubject (now (subject .entry))))) ⌝ }
     ensures { λ r. ⌜ HeldFits (now (references .entry)) (now (san .entry)) (now (subject .entry)) r ⌝ }
 {
-    let service = service_of(references, i);
     let domain = domain_of(references, i);
-    let first = octets::find(domain, 0x2E);
     let mut at = first_set(san, subject);
     let mut j: usize = 0;
     while at < subject.len() {
         let e = set_at(subject, at);
-        let hit = set_matches(service, domain, first, subject, e);
+        let hit = set_matches(domain, subject, e);
         if hit {
             let element = e.element;
             let text = e.text;

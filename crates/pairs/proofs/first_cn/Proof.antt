@@ -6,64 +6,54 @@ use Rattle.pairs.proofs.first_cn.Statement.{statement}
 use Rattle.pairs.proofs.first_cn.Tie as tie
 use Rattle.pairs.proofs.first_cn.Reads as reads
 use Rattle.pairs.proofs.first_cn.Lts as lts
-use Rattle.octets.proofs.find.Reads as find-reads
 use Rattle.pairs.proofs.domain_of.Reads as domain-of-reads
-use Rattle.pairs.proofs.service_of.Reads as service-of-reads
 use Rattle.pairs.proofs.set_matches.Reads as set-matches-reads
 use Rattle.presented.proofs.first_set.Reads as first-set-reads
 use Rattle.presented.proofs.set_at.Reads as set-at-reads
 
 abbrev Inv-loop : tie.InvT-loop
-Inv-loop references i san subject service domain first at₀ j₀ at j = Sets references san subject i service domain at j
+Inv-loop references i san subject domain at₀ j₀ at j = Sets references san subject i domain at j
 
 abbrev μ-loop : tie.MeasureT-loop
-μ-loop references i san subject service domain first at₀ j₀ at j = length subject - at
+μ-loop references i san subject domain at₀ j₀ at j = length subject - at
 
--- src/lib.rt:138:9
-service-of-requires : tie.Need-service-of-requires Inv-loop μ-loop
-service-of-requires c κs = search (needs, set-laws)
-
--- src/lib.rt:139:9
+-- src/lib.rt:137:9
 domain-of-requires : tie.Need-domain-of-requires Inv-loop μ-loop
 domain-of-requires c κs = search (needs, set-laws)
 
--- src/lib.rt:140:9
-find-requires : tie.Need-find-requires Inv-loop μ-loop
-find-requires c κs = search (needs, set-laws)
-
--- src/lib.rt:141:9
+-- src/lib.rt:138:9
 first-set-requires : tie.Need-first-set-requires Inv-loop μ-loop
 first-set-requires c κs = search (needs, set-laws)
 
--- src/lib.rt:143:5
+-- src/lib.rt:140:5
 loop-holds : tie.Need-loop-holds Inv-loop μ-loop
 loop-holds c = search (needs, set-laws)
 
--- src/lib.rt:144:13
+-- src/lib.rt:141:13
 set-at-requires : tie.Need-set-at-requires Inv-loop μ-loop
 set-at-requires c κs = search (needs, set-laws)
 
--- src/lib.rt:145:13
+-- src/lib.rt:142:13
 set-matches-requires : tie.Need-set-matches-requires Inv-loop μ-loop
 set-matches-requires c κs = search (needs, set-laws)
 
--- src/lib.rt:149:13
+-- src/lib.rt:146:13
 returns : tie.Need-returns Inv-loop μ-loop
 returns c = search (needs, set-laws)
 
--- src/lib.rt:158:9
+-- src/lib.rt:155:9
 add-j : tie.Need-add-j Inv-loop μ-loop
 add-j c = search (needs, set-laws)
 
--- src/lib.rt:143:5
+-- src/lib.rt:140:5
 loop-less : tie.Need-loop-less Inv-loop μ-loop
 loop-less c = search (needs, set-laws)
 
--- src/lib.rt:143:5
+-- src/lib.rt:140:5
 loop-again : tie.Need-loop-again Inv-loop μ-loop
 loop-again c = search (needs, set-laws)
 
--- src/lib.rt:129:1
+-- src/lib.rt:128:1
 returns-2 : tie.Need-returns-2 Inv-loop μ-loop
 returns-2 c = search (needs, set-laws)
 
@@ -73,9 +63,7 @@ first-cn-spec =
     (tie.spec
     Inv-loop
     μ-loop
-    service-of-requires
     domain-of-requires
-    find-requires
     first-set-requires
     loop-holds
     set-at-requires

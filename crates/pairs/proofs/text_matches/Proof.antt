@@ -5,30 +5,30 @@ use Rattle.pairs.proofs.text_matches.Tie as tie
 use Rattle.pairs.proofs.text_matches.Reads as reads
 use Rattle.pairs.proofs.text_matches.Lts as lts
 use Rattle.dns.proofs.domain_matches.Reads as domain-matches-reads
-use Rattle.srv.proofs.srv_matches.Reads as srv-matches-reads
-use Rattle.uri.proofs.uri_matches.Reads as uri-matches-reads
+use Rattle.srv.proofs.service_matches.Reads as service-matches-reads
+use Rattle.uri.proofs.scheme_matches.Reads as scheme-matches-reads
 
--- src/lib.rt:83:9
-srv-matches-requires : tie.Need-srv-matches-requires
-srv-matches-requires c κs = search needs
+-- src/lib.rt:84:9
+service-matches-requires : tie.Need-service-matches-requires
+service-matches-requires c κs = search (needs, laws)
 
--- src/lib.rt:83:9
+-- src/lib.rt:84:9
 returns : tie.Need-returns
 returns c = search (needs, laws)
 
--- src/lib.rt:86:9
-uri-matches-requires : tie.Need-uri-matches-requires
-uri-matches-requires c κs = search needs
+-- src/lib.rt:87:9
+scheme-matches-requires : tie.Need-scheme-matches-requires
+scheme-matches-requires c κs = search (needs, laws)
 
--- src/lib.rt:86:9
+-- src/lib.rt:87:9
 returns-2 : tie.Need-returns-2
 returns-2 c = search (needs, laws)
 
--- src/lib.rt:88:5
+-- src/lib.rt:89:5
 domain-matches-requires : tie.Need-domain-matches-requires
 domain-matches-requires c κs = search (needs, laws)
 
--- src/lib.rt:77:1
+-- src/lib.rt:78:1
 returns-3 : tie.Need-returns-3
 returns-3 c = search (needs, laws)
 
@@ -36,9 +36,9 @@ pub text-matches-spec : {M : Type 1} → statement M
 text-matches-spec =
     tie.close
     (tie.spec
-    srv-matches-requires
+    service-matches-requires
     returns
-    uri-matches-requires
+    scheme-matches-requires
     returns-2
     domain-matches-requires
     returns-3)
