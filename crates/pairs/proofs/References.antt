@@ -2,13 +2,13 @@
 use Prim.Native.Nat.{ℕ, zero, _+_, _-_, _*_, _/_, _%_, _≤_, _<_}
 use mathlib.Core.Path.{_≡_, sym, ap, _∙_}
 use mathlib.Core.Bool.{Bool, true, false, _&&_, _||_, true≢false}
-use mathlib.Core.List.{List, []}
+use mathlib.Core.List.{List, [], _∷_}
 use native.Mathlib.Omega.{arith}
 use native.Mathlib.Nat.{add-zero}
 use lib.ListN.{length, getD, take, drop, length-take}
 use lib.Seq.{drop-drop, take-take}
 use lib.Dec.{T, eqb, leb, leb→le}
-use borrow.Author.Tests.{ne-eqb, le-leb, lt-leb}
+use borrow.Author.Tests.{eqb-true, ne-eqb, le-leb, lt-leb}
 use Rattle.rules.proofs.Cases.{by-cases, is-true, and-left, and-right}
 use Rattle.rules.specs.Bytes.{part, some?, all}
 use Rattle.rules.specs.Numbers.{recordSize, serviceLengthAt, domainLengthAt, serviceAt, serviceSize, domainAt, domainSize}
@@ -107,6 +107,18 @@ module _ (b : List ℕ) (i : ℕ) (h : i < length b / recordSize) where
       pub reference-good : goodReference (reference kind v d) ≡ true
       unfolding referenceAt
       reference-good = ap goodReference (sym reference-is) ∙ is-true (goodReference (referenceOf rec)) (parts .1 .1)
+
+-- good records have a first
+pub some-record : (b : List ℕ) → goodRecords b ≡ true → 1 ≤ length b / recordSize
+unfolding goodRecords
+some-record b g =
+    let p = and-left (some? b && eqb (length b % recordSize) 0) _ g in
+    let whole = eqb-true (length b % recordSize) 0 (and-right (some? b) _ p) in
+    go b (and-left (some? b) _ p) whole
+  where
+    go : (b : List ℕ) → some? b ≡ true → length b % recordSize ≡ 0 → 1 ≤ length b / recordSize
+    go [] e h = absurd (true≢false (sym e))
+    go (x ∷ b) e h = omega arith
 
 -- ---- a text held against a good reference
 

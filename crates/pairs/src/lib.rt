@@ -1,5 +1,8 @@
 // The first pair of a reference and a presented identifier that match: lowest reference, then lowest name.
 use der::element_end;
+use filter::TABLE_SIZE;
+use filter::may_match;
+use filter::note;
 use octets::wide;
 use presented::Entry;
 use presented::entry_text;
@@ -7,6 +10,7 @@ use presented::first_set;
 use presented::names_start;
 use presented::set_at;
 use rules::CN;
+use rules::DNS;
 use rules::DOMAIN_AT;
 use rules::DOMAIN_LENGTH_AT;
 use rules::Outcome;
@@ -21,7 +25,7 @@ ghost use Prim.Native.Nat.{_+_, _≤_, _<_, _/_};
 ghost use mathlib.Core.Path.{_≡_};
 ghost use mathlib.Core.Bool.{true, false};
 ghost use mathlib.Core.List.{[]};
-ghost use lib.ListN.{length};
+ghost use lib.ListN.{length, drop};
 ghost use Rattle.rules.specs.Bytes.{before};
 ghost use Rattle.rules.specs.Names.{dot, is};
 ghost use Rattle.rules.specs.Numbers.{recordSize, cnKind};
@@ -31,9 +35,9 @@ ghost use Rattle.rules.specs.Verdict.{matchedOr};
 ghost use Rattle.reading.specs.Strings.{readSan, readSubject};
 ghost use Rattle.der.specs.Runs.{validated, namesOf};
 ghost use Rattle.presented.specs.Presented.{shownAt};
-ghost use Rattle.pairs.specs.Pairs.{referenceAt, textAt, entryMatches, witnessAt, foundFor, heldBy, HeldFits, OutcomeFits};
+ghost use Rattle.pairs.specs.Pairs.{referenceAt, textAt, entryMatches, witnessAt, foundFor, foundBetween, heldBy, firstEntry, Filters, HeldFits, OutcomeFits};
 
-// The witness of the first set of the subject that a reference matches, if one does.
+// The witness of the first identifier that matches, if one does.
 enum Held {
     By(Witness),
     Nothing,
@@ -178,23 +182,59 @@ fn entry_witness(i: usize, j: usize, at: usize, text: usize, next: usize) -> Wit
     }
 }
 
-// "the pair reported is the first: lowest reference, then lowest name"
-pub fn first_pair(references: &[u8], san: &[u8], subject: &[u8]) -> Outcome
+// Where the entries start that a reference is held against: at the SAN's end, where a table of the dNSNames' keys says that a DNS
+// reference matches none of them. Any other part of bytes is no table.
+fn first_entry(
+    table: &[u8],
+    kind: u8,
+    domain: &[u8],
+    first: usize,
+    start: usize,
+    end: usize,
+) -> usize
+    requires { ⌜ (first ≡ length (before (is dot) (now domain))) × (first ≤ length (now domain)) ⌝ }
+    ensures { λ r. ⌜ r ≡ firstEntry (now (table .entry)) kind (now (domain .entry)) start end ⌝ }
+{
+    if kind != DNS {
+        return start;
+    }
+    if table.len() != TABLE_SIZE {
+        return start;
+    }
+    let may = may_match(table, domain, first);
+    if may {
+        return start;
+    }
+    end
+}
+
+// The first pair of the references from one index to another: lowest reference, then lowest name.
+fn first_between(
+    references: &[u8],
+    from: usize,
+    to: usize,
+    san: &[u8],
+    subject: &[u8],
+    table: &[u8],
+) -> Held
     requires { ⌜ goodRecords (now references) ≡ true ⌝ }
+    requires { ⌜ from ≤ to ⌝ }
+    requires { ⌜ to ≤ length (now references) / recordSize ⌝ }
     requires { ⌜ validated readSan (now san) ≡ true ⌝ }
     requires { ⌜ validated readSubject (now subject) ≡ true ⌝ }
-    ensures { λ r. ⌜ r ≡ matchedOr (firstPair 0 (referencesOf (now (references .entry))) (namesOf readSan (now (san .entry))) (namesOf readSubject (now (subject .entry)))) ⌝ }
-    ensures { λ r. ⌜ OutcomeFits (now (references .entry)) (now (san .entry)) (now (subject .entry)) r ⌝ }
+    requires { ⌜ Filters (now table) (namesOf readSan (now san)) ⌝ }
+    ensures { λ r. ⌜ r ≡ heldBy (foundBetween (now (references .entry)) (now (san .entry)) (now (subject .entry)) from to) ⌝ }
+    ensures { λ r. ⌜ HeldFits (now (references .entry)) (now (san .entry)) (now (subject .entry)) r ⌝ }
 {
-    let n = references.len() / RECORD_SIZE;
-    let mut found = Outcome::Mismatched;
-    let mut i = 0;
-    'pairs: while i < n {
+    let start = names_start(san);
+    let mut found = Held::Nothing;
+    let mut i = from;
+    'pairs: while i < to {
         let kind = kind_of(references, i);
         if kind == CN {
             let c = first_cn(references, i, san, subject);
             if let Held::By(w) = c {
-                found = Outcome::Matched(w);
+                found = Held::By(w);
                 break 'pairs;
             }
         } else {
@@ -202,7 +242,7 @@ pub fn first_pair(references: &[u8], san: &[u8], subject: &[u8]) -> Outcome
             let domain = domain_of(references, i);
             let first = octets::find(domain, 0x2E);
             let end = san.len();
-            let mut at = names_start(san);
+            let mut at = first_entry(table, kind, domain, first, start, end);
             let mut j: usize = 0;
             while at < end {
                 let next = element_end(san, at, end);
@@ -210,7 +250,7 @@ pub fn first_pair(references: &[u8], san: &[u8], subject: &[u8]) -> Outcome
                 let hit = name_matches(kind, service, domain, first, san, text, next);
                 if hit {
                     let w = entry_witness(i, j, at, text, next);
-                    found = Outcome::Matched(w);
+                    found = Held::By(w);
                     break 'pairs;
                 }
                 at = next;
@@ -220,4 +260,41 @@ pub fn first_pair(references: &[u8], san: &[u8], subject: &[u8]) -> Outcome
         i += 1;
     }
     found
+}
+
+// The first pair of the references past the first. Most of several references match no name: a DNS reference whose key no dNSName has is
+// held against none of them.
+fn first_of_others(references: &[u8], san: &[u8], subject: &[u8]) -> Held
+    requires { ⌜ goodRecords (now references) ≡ true ⌝ }
+    requires { ⌜ validated readSan (now san) ≡ true ⌝ }
+    requires { ⌜ validated readSubject (now subject) ≡ true ⌝ }
+    ensures { λ r. ⌜ r ≡ heldBy (firstPair 1 (drop 1 (referencesOf (now (references .entry)))) (namesOf readSan (now (san .entry))) (namesOf readSubject (now (subject .entry)))) ⌝ }
+    ensures { λ r. ⌜ HeldFits (now (references .entry)) (now (san .entry)) (now (subject .entry)) r ⌝ }
+{
+    let n = references.len() / RECORD_SIZE;
+    if n < 2 {
+        return Held::Nothing;
+    }
+    let mut table = [0u8; TABLE_SIZE];
+    note(san, &mut table);
+    first_between(references, 1, n, san, subject, &table)
+}
+
+// "the pair reported is the first: lowest reference, then lowest name"
+pub fn first_pair(references: &[u8], san: &[u8], subject: &[u8]) -> Outcome
+    requires { ⌜ goodRecords (now references) ≡ true ⌝ }
+    requires { ⌜ validated readSan (now san) ≡ true ⌝ }
+    requires { ⌜ validated readSubject (now subject) ≡ true ⌝ }
+    ensures { λ r. ⌜ r ≡ matchedOr (firstPair 0 (referencesOf (now (references .entry))) (namesOf readSan (now (san .entry))) (namesOf readSubject (now (subject .entry)))) ⌝ }
+    ensures { λ r. ⌜ OutcomeFits (now (references .entry)) (now (san .entry)) (now (subject .entry)) r ⌝ }
+{
+    let c = first_between(references, 0, 1, san, subject, &san[..0]);
+    if let Held::By(w) = c {
+        return Outcome::Matched(w);
+    }
+    let d = first_of_others(references, san, subject);
+    match d {
+        Held::By(w) => Outcome::Matched(w),
+        Held::Nothing => Outcome::Mismatched,
+    }
 }
