@@ -1,5 +1,5 @@
 -- Two texts compared without case, part by part.
-use Prim.Native.Nat.{ℕ, suc, _+_, _-_, _<_, _≤_}
+use Prim.Native.Nat.{ℕ, suc, _+_, _-_, _*_, _<_, _≤_}
 use mathlib.Core.Path.{_≡_, refl, sym, ap, ap₂, _∙_}
 use mathlib.Core.List.{List, [], _∷_}
 use mathlib.Core.Bool.{Bool, true, false, not, _&&_}
@@ -8,11 +8,12 @@ use native.Mathlib.Numerals.{add-one}
 use lib.ListN.{length, getD, take, length-take, drop-of-length-le}
 use lib.Seq.{slice, slice-cons, length-slice, take-length}
 use lib.Dec.{eqb}
-use lib.Bits.{bitOr}
+use lib.Bits.{bitAnd, bitOr}
 use borrow.Author.Tests.{eq-eqb, not-true, not-false}
 use Rattle.words.specs.Words.{Number}
 use Rattle.words.proofs.Values.{value-same}
 use Rattle.words.proofs.Case.{same-words}
+use Rattle.words.proofs.Letters.{others, same-but-case}
 use Rattle.words.proofs.Ranges.{slice-cut, past, stop, final}
 use Rattle.rules.specs.Names.{lower, sameText}
 use Rattle.octets.specs.Texts.{samePart}
@@ -123,11 +124,28 @@ unfolding samePart
 word-differs a b at x y h k p q n =
     fails (sameText (slice at (at + 8) a) (slice at (at + 8) b)) (λ e. n (same-words a b at at x y h k p q e))
 
+-- words that differ in the bit of the case alone
+pub word-cases : (a b : List ℕ) (at x y : ℕ) → at + 8 ≤ length a → at + 8 ≤ length b → Number 8 a at x → Number 8 b at y
+    → bitOr x 0x2020202020202020 ≡ bitOr y 0x2020202020202020
+    → eqb (bitAnd (bitAnd x 0x2020202020202020 * 4) (others 8 (bitOr x 0x2020202020202020)))
+    (bitAnd (bitAnd y 0x2020202020202020 * 4) (others 8 (bitOr x 0x2020202020202020)))
+    ≡ samePart a b at (at + 8)
+unfolding samePart
+word-cases a b at x y h k p q e = same-but-case a b at at x y h k p q e
+
 -- ---- the whole text
 
 module _ (a b : List ℕ) (n : ℕ) (a-long : n ≡ length a) (b-long : n ≡ length b) where
   pub whole-few : (r : Bool) → r ≡ samePart a b 0 n → r ≡ sameText a b
   whole-few r e = e ∙ part-whole a b n a-long b-long
+
+  -- the first eight
+  pub first-differs : 8 ≤ n → (x y : ℕ) → Number 8 a 0 x → Number 8 b 0 y
+      → (bitOr x 0x2020202020202020 ≡ bitOr y 0x2020202020202020 → ⊥) → false ≡ sameText a b
+  first-differs h x y p q e =
+      part-stop a b 0 n (omega arith) (omega arith) 0 (part-begin a b 0 n) 8 (omega arith) (omega arith)
+      (sym (word-differs a b 0 x y (omega arith) (omega arith) p q e))
+      ∙ part-whole a b n a-long b-long
 
   module _ (last at : ℕ) (is-last : last + 8 ≡ n) (inv : PartLeft a b 0 n at) (within : at ≤ last) (same : Bool) (is-same : same ≡ samePart a b at (at + 8)) where
     pub whole-differ : not same ≡ true → false ≡ sameText a b

@@ -138,7 +138,8 @@ fn same_few(a: &[u8], b: &[u8], start: usize, end: usize) -> bool
 }
 
 // Whether eight bytes are the same without case. A letter and its capital differ in one bit, so that two words which differ in another
-// are left at once.
+// are left at once. In that bit they may differ where a byte is a letter alone: with the bit set, a small letter. What is no small letter
+// has the highest bit, is past `z`, or is before `a`; the last two make the highest bit of a sum and of a difference.
 fn same_word(a: &[u8], b: &[u8], at: usize) -> bool
     requires { ⌜ at + 8 ≤ length (now a) ⌝ }
     requires { ⌜ at + 8 ≤ length (now b) ⌝ }
@@ -149,16 +150,21 @@ fn same_word(a: &[u8], b: &[u8], at: usize) -> bool
     if x == y {
         return true;
     }
-    let u = x | CASE;
-    let v = y | CASE;
-    if u != v {
+    let small = x | CASE;
+    let other = y | CASE;
+    if small != other {
         return false;
     }
-    same_few(a, b, at, at + 8)
+    let low = small & 0x7F7F7F7F7F7F7F7F;
+    let outside = (0xE0E0E0E0E0E0E0E0 - low) | (low + 0x0505050505050505) | small;
+    let first = (x & CASE) * 4 & outside;
+    let second = (y & CASE) * 4 & outside;
+    first == second
 }
 
 // Whether two texts are the same without case: eight bytes at a time, at the end the last eight, left at the first eight that differ.
-// `same_word` has one call, so that the compiler writes it into the loop.
+// Most that differ do so in the first eight, which are looked at before the loop. `same_word` has one call, so that the compiler writes it
+// into the loop.
 pub fn same_text(a: &[u8], b: &[u8]) -> bool
     ensures { λ r. ⌜ r ≡ sameText (now (a .entry)) (now (b .entry)) ⌝ }
 {
@@ -168,6 +174,11 @@ pub fn same_text(a: &[u8], b: &[u8]) -> bool
     }
     if n < 8 {
         return same_few(a, b, 0, n);
+    }
+    let x = words::word(a, 0);
+    let y = words::word(b, 0);
+    if x | CASE != y | CASE {
+        return false;
     }
     let last = n - 8;
     let mut k = 0;
