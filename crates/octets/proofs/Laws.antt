@@ -95,7 +95,6 @@ pub ruleset laws = (
   Texts.word-differs,
   Texts.word-cases,
   Texts.whole-few,
-  Texts.first-differs,
   Texts.whole-differ,
   Texts.whole-next,
   Texts.whole-last,

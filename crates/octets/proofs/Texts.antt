@@ -139,14 +139,6 @@ module _ (a b : List ℕ) (n : ℕ) (a-long : n ≡ length a) (b-long : n ≡ le
   pub whole-few : (r : Bool) → r ≡ samePart a b 0 n → r ≡ sameText a b
   whole-few r e = e ∙ part-whole a b n a-long b-long
 
-  -- the first eight
-  pub first-differs : 8 ≤ n → (x y : ℕ) → Number 8 a 0 x → Number 8 b 0 y
-      → (bitOr x 0x2020202020202020 ≡ bitOr y 0x2020202020202020 → ⊥) → false ≡ sameText a b
-  first-differs h x y p q e =
-      part-stop a b 0 n (omega arith) (omega arith) 0 (part-begin a b 0 n) 8 (omega arith) (omega arith)
-      (sym (word-differs a b 0 x y (omega arith) (omega arith) p q e))
-      ∙ part-whole a b n a-long b-long
-
   module _ (last at : ℕ) (is-last : last + 8 ≡ n) (inv : PartLeft a b 0 n at) (within : at ≤ last) (same : Bool) (is-same : same ≡ samePart a b at (at + 8)) where
     pub whole-differ : not same ≡ true → false ≡ sameText a b
     whole-differ e =

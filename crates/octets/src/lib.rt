@@ -207,9 +207,9 @@ pub fn same_early(a: &[u8], b: &[u8]) -> bool
         return false;
     }
     if 8 <= n {
-        let x = words::word(a, 0) | CASE;
-        let y = words::word(b, 0) | CASE;
-        if x != y {
+        let x = words::word(a, 0);
+        let y = words::word(b, 0);
+        if x | CASE != y | CASE {
             return false;
         }
     }
