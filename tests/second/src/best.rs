@@ -2,10 +2,10 @@
 //! Rust is (request 7/13): no unsafe, no crates, nothing of one processor. It
 //! gives the six numbers of `judge_from_c`.
 //!
-//! The SAN is read once. Each reference to a dNSName has a key, made of the first
-//! sixteen bytes of its domain; a dNSName whose key is none of these matches none
-//! of them, however many there are. Texts are looked at eight or sixteen bytes at a
-//! time.
+//! The SAN is read once. Each reference to a dNSName has a key, made of sixteen
+//! bytes at either end of its domain; a dNSName whose key is none of these matches
+//! none of them, however many there are. Texts are looked at eight or sixteen bytes
+//! at a time.
 
 mod constraints;
 mod der;

@@ -104,11 +104,11 @@ impl<'r, 'a> Search<'r, 'a> {
             if name[0] != DNS_NAME || !(16..=32).contains(&length) {
                 break;
             }
-            let (first, second) = (word(name, 2), word(name, 10));
-            if !is_low(first | second | word(name, length - 14) | word(name, length - 6)) {
+            let words = [2, 10, length - 14, length - 6].map(|at| word(name, at));
+            if !is_low(words[0] | words[1] | words[2] | words[3]) {
                 return None;
             }
-            let key = mixed(first, second);
+            let key = mixed(words);
             if self.references.has_key(key) || name[2] == b'*' {
                 let reference = self.dns_name(&name[2..2 + length], key);
                 self.note(reference, index, san.len() - rest.len(), length + 2);

@@ -113,20 +113,22 @@ pub fn same(one: &[u8], other: &[u8]) -> bool {
     same_word(word(one, length - 8), word(other, length - 8))
 }
 
-/// A number that is the same for texts that are the same without case, from
-/// their first two words.
+/// A number that is the same for texts of one length that are the same without
+/// case, from two words at either end of them. Words are turned by whole bytes, so
+/// that bit 20 stays where it is and one mask takes it out of all.
 #[inline(always)]
-pub fn mixed(first: u64, second: u64) -> u64 {
-    let sum = (first | CASE).wrapping_add((second | CASE).rotate_left(5));
-    sum.wrapping_mul(0x9E37_79B9_7F4A_7C15)
+pub fn mixed(words: [u64; 4]) -> u64 {
+    let [first, second, third, last] = words;
+    let all = first ^ second.rotate_left(8) ^ third.rotate_left(16) ^ last.rotate_left(24);
+    (all & !CASE).wrapping_mul(0xD6E8_FEB8_6659_FD93)
 }
 
 /// The same, for a text of any length.
 #[inline(always)]
 pub fn key(text: &[u8]) -> u64 {
     match text.len() {
-        16.. => mixed(word(text, 0), word(text, 8)),
-        length @ 8.. => mixed(word(text, 0), word(text, length - 8)),
-        _ => mixed(few(text), 0),
+        length @ 16.. => mixed([0, 8, length - 16, length - 8].map(|at| word(text, at))),
+        length @ 8.. => mixed([word(text, 0), word(text, length - 8), 0, 0]),
+        _ => mixed([few(text), 0, 0, 0]),
     }
 }

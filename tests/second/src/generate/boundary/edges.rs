@@ -4,9 +4,11 @@
 
 use super::lengths::in_san;
 use super::letters::changed_names;
-use super::{base, excluded, permitted, same, second_record, with, Case, Line, Node, Taker};
+use super::{base, excluded, labels_of, permitted, same, second_record, with};
+use super::{Case, Line, Node, Taker};
 use crate::records::kind::{CN, DNS, SRV, URI};
 use crate::records::{DOMAIN, RECORD, SERVICE};
+use crate::text::LONGEST_SERVICE;
 use crate::tree::*;
 
 /// The longest texts of these lines, and the longest domains.
@@ -79,22 +81,15 @@ fn past_ascii(take: Taker, word: &[u8]) {
     }
 }
 
-/// A byte that is not zero at each place of a record's fillers.
+/// A byte that is not zero at each place of a record's fillers, behind texts of
+/// each length.
 fn fillers(take: Taker) {
-    const SERVICES: [usize; 8] = [1, 2, 8, 31, 32, 33, 61, 62];
-    const DOMAINS: [usize; 8] = [3, 8, 16, 29, 31, 32, 33, 253];
-    for (service, domain) in SERVICES.into_iter().zip(DOMAINS) {
+    for length in (3..=LONGEST_TEXT).chain([61, 62, 127, 252, 253]) {
+        let service = vec![b's'; length.min(LONGEST_SERVICE)];
         for kind in [DNS, SRV, URI, CN] {
-            let texts = [service, domain].map(|length| vec![b's'; length]);
-            let [service, mut domain] = texts;
-            domain
-                .iter_mut()
-                .skip(1)
-                .step_by(50)
-                .for_each(|byte| *byte = b'.');
-            let (_, case) = same(kind, &service, &domain);
-            let filled = usize::from(case.references[2]);
-            for place in (SERVICE + filled..DOMAIN).chain(DOMAIN + domain.len()..RECORD) {
+            let (_, case) = same(kind, &service, &labels_of(length));
+            let service = SERVICE + usize::from(case.references[2]);
+            for place in (service..DOMAIN).chain(DOMAIN + length..RECORD) {
                 take(second_record(&case.references, place));
             }
         }
@@ -107,12 +102,12 @@ fn fillers(take: Taker) {
 /// digits from each place on.
 fn domains(take: Taker) {
     for length in 1..=LONGEST_BASE {
+        let [short, long] = bases(length);
         for place in 0..length {
-            for (text, byte) in bases(length).into_iter().zip(0..) {
-                // Long labels decide near 63 bytes alone.
-                if byte == 0 || length >= 60 {
-                    bad_bytes(take, &text, place);
-                }
+            bad_bytes(take, &short, place);
+            // Long labels decide near 63 bytes alone.
+            if length >= 60 {
+                bad_bytes(take, &long, place);
             }
         }
     }
