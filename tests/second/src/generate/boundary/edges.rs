@@ -127,6 +127,7 @@ fn bases(length: usize) -> [Vec<u8>; 2] {
     [text(|place| place % 7 == 6), text(|place| place == 1)]
 }
 
+/// One of three bytes at a place, or a dot and digits from there on.
 fn bad_bytes(take: Taker, text: &[u8], place: usize) {
     let changed = [b'-', b'.', b'_'].map(|byte| {
         let mut text = text.to_vec();
