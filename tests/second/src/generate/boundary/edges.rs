@@ -30,6 +30,7 @@ pub fn each(take: Taker) {
             changed_names(take, kind, word, b"a.b");
         }
         past_ascii(take, word);
+        blocking(take, word);
     }
     fillers(take);
     domains(take);
@@ -78,6 +79,18 @@ fn past_ascii(take: Taker, word: &[u8]) {
         let text = [&text, b".b".as_slice()].concat();
         case.subject = subject(vec![rdn(vec![common_name(0x13, &text)])]).write();
         take((format!("{what} in a CN"), case));
+    }
+}
+
+/// A text of each length in a name that keeps a CN from counting, or does not.
+fn blocking(take: Taker, word: &[u8]) {
+    for name in [email, dns_name, uri_name, srv_name].map(|form| form(word)) {
+        let case = Case {
+            san: san(vec![name, ip_address(&[0; 16])]).write(),
+            references: record(CN, b"", b"a.b"),
+            ..base()
+        };
+        take((format!("CN beside a name of {} bytes", word.len()), case));
     }
 }
 

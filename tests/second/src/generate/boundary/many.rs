@@ -125,13 +125,15 @@ impl Way {
         }
     }
 
-    /// Sixteen records; the one at this index asks for the name that matches.
+    /// Sixteen records; the one at this index asks for the name that matches. Those
+    /// of CNs ask for the subject's, which the names keep from counting.
     fn references(self, count: usize, asking: usize) -> Vec<u8> {
         let (kind, _) = self.presented(count);
         let mut records: Vec<Vec<u8>> = (0..MOST_RECORDS)
             .map(|index| {
                 let kind = [DNS, SRV, URI, CN][index % 4];
                 let domain = match self {
+                    _ if kind == CN => b"a.b".to_vec(),
                     Way::Kinds(_) | Way::Wildcard => host(count, 'q', index),
                     Way::Shared(length) => shared(length, &format!("q{index:02}")),
                     _ => other_byte(self.asked(count), index, b'w'),
