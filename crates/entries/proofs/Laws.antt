@@ -1,6 +1,6 @@
 -- What each function of the crate returns, by its own tests.
 use Rattle.der.proofs.Elements.{not-found}
-use Rattle.entries.proofs.Others.{srv-oid-is, cn-oid-is, other-no-oid, oid-body, oid-rest, oid-fits, other-empty, other-no-inner, inner-fits, other-open, other-no-value, other-value-open, other-srv, other-plain}
+use Rattle.entries.proofs.Others.{srv-oid-long, srv-oid-is, cn-oid-is, other-no-oid, oid-body, oid-rest, oid-fits, other-empty, other-no-inner, inner-fits, other-open, other-no-value, other-value-open, other-srv, other-plain}
 use Rattle.entries.proofs.Shapes.{shape-other, shape-plain, kind-0C, kind-13, kind-16, kind-cn, kind-other, attribute-tag, attribute-no-oid, attribute-empty, attribute-no-value, attribute-open, attribute-is, subtree-tag, subtree-none, name-fits, subtree-open, subtree-is}
 use Rattle.entries.proofs.Rules.{ascii-of, text-81, text-82, text-86, sealed-87, sealed-88, sealed-A3, sealed-A4, sealed-A5, srv-tag, srv-empty, srv-ascii, no-name, good-malformed, text-fits, good-srv-is, good-other-is, good-other-tag, good-sealed, good-text, good-unknown}
 use Rattle.entries.proofs.Subtrees.{subtree-malformed, subtree-srv-bad, subtree-srv, subtree-other, name-other, name-dns, name-plain, good-subtree-tag, good-subtree-none, good-subtree-open, good-subtree-is}
@@ -8,6 +8,7 @@ use Rattle.entries.proofs.Whole.{whole-found, start-within, tag-other-t
 
 pub ruleset laws = (
   not-found,
+  srv-oid-long,
   srv-oid-is,
   cn-oid-is,
   other-no-oid,

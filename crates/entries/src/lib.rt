@@ -8,8 +8,8 @@ use der::value;
 use dns::dns_restriction;
 use octets::same_bytes;
 use octets::wide;
-use rules::SRV_OID;
 use srv::restriction;
+use words::word;
 ghost use Prim.Native.Nat.{_+_, _≤_};
 ghost use mathlib.Core.Path.{_≡_};
 ghost use mathlib.Core.Bool.{true};
@@ -18,6 +18,9 @@ ghost use Rattle.rules.specs.San.{textTag, sealedTag};
 ghost use Rattle.rules.specs.Matching.{srvText, taggedText};
 ghost use Rattle.reading.specs.Reader.{isSome};
 ghost use Rattle.entries.specs.Entries.{srvOidAt, cnOidAt, otherAt, nameAt, kindBy, attributeAt, subtreeAt, asciiAt, goodSrvAt, goodNameAt, goodSubtreeNameAt, goodSubtreeAt, formOf, wholeAt, textPlace};
+
+// "the eight bytes 2B 06 01 05 05 07 08 07" as one number, the first the lowest.
+const SRV_OID: u64 = 0x070807050501062B;
 
 // "The CN's OID content is 55 04 03."
 const CN_OID: [u8; 3] = [0x55, 0x04, 0x03];
@@ -36,7 +39,10 @@ fn is_srv_oid(s: &[u8], start: usize, end: usize) -> bool
     requires { ⌜ end ≤ length (now s) ⌝ }
     ensures { λ r. ⌜ r ≡ srvOidAt (now (s .entry)) start end ⌝ }
 {
-    same_bytes(&s[start..end], &SRV_OID)
+    if end - start != 8 {
+        return false;
+    }
+    word(s, start) == SRV_OID
 }
 
 // Whether the bytes from start to end are the OID of a CN.
