@@ -285,16 +285,14 @@ fn good_other(s: &[u8], start: usize, end: usize) -> bool
     true
 }
 
-// Whether a GeneralName is readable: "81, 82, 86: every byte below 128. 87, 88, A3, A4, A5: content not looked into. Tags not
-// named here are unreadable."
-pub fn good_name(s: &[u8], tag: u8, start: usize, end: usize) -> bool
+// The rules of a GeneralName that is no otherName: "81, 82, 86: every byte below 128. 87, 88, A3, A4, A5: content not looked into. Tags
+// not named here are unreadable."
+fn good_plain(s: &[u8], tag: u8, start: usize, end: usize) -> bool
     requires { ⌜ start ≤ end ⌝ }
     requires { ⌜ end ≤ length (now s) ⌝ }
+    requires { ⌜ (tag ≡ 0xA0 → ⊥) ⌝ }
     ensures { λ r. ⌜ r ≡ goodNameAt (now (s .entry)) tag start end ⌝ }
 {
-    if tag == 0xA0 {
-        return good_other(s, start, end);
-    }
     let sealed = is_sealed_tag(tag);
     if sealed {
         return true;
@@ -304,6 +302,18 @@ pub fn good_name(s: &[u8], tag: u8, start: usize, end: usize) -> bool
         return is_ascii(s, start, end);
     }
     false
+}
+
+// Whether a GeneralName is readable. Those of a subtree ask `good_plain`, so that the compiler writes this into the one loop that calls it.
+pub fn good_name(s: &[u8], tag: u8, start: usize, end: usize) -> bool
+    requires { ⌜ start ≤ end ⌝ }
+    requires { ⌜ end ≤ length (now s) ⌝ }
+    ensures { λ r. ⌜ r ≡ goodNameAt (now (s .entry)) tag start end ⌝ }
+{
+    if tag == 0xA0 {
+        return good_other(s, start, end);
+    }
+    good_plain(s, tag, start, end)
 }
 
 // The rules of an otherName in a subtree: "An SRVName here has one of three texts".
@@ -339,7 +349,7 @@ fn good_subtree_name(s: &[u8], tag: u8, start: usize, end: usize) -> bool
     if tag == 0x82 {
         return dns_restriction(&s[start..end]);
     }
-    good_name(s, tag, start, end)
+    good_plain(s, tag, start, end)
 }
 
 // Whether a subtree is readable.

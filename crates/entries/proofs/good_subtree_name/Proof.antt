@@ -5,42 +5,42 @@ use Rattle.entries.proofs.good_subtree_name.Tie as tie
 use Rattle.entries.proofs.good_subtree_name.Reads as reads
 use Rattle.entries.proofs.good_subtree_name.Lts as lts
 use Rattle.dns.proofs.dns_restriction.Reads as dns-restriction-reads
-use Rattle.entries.proofs.good_name.Reads as good-name-reads
 use Rattle.entries.proofs.good_other_subtree.Reads as good-other-subtree-reads
+use Rattle.entries.proofs.good_plain.Reads as good-plain-reads
 
--- src/lib.rt:327:9
+-- src/lib.rt:341:9
 good-other-subtree-requires : tie.Need-good-other-subtree-requires
 good-other-subtree-requires c κs = search needs
 
--- src/lib.rt:327:9
+-- src/lib.rt:341:9
 returns : tie.Need-returns
 returns c = search (needs, laws)
 
--- src/lib.rt:330:32
+-- src/lib.rt:344:32
 sub-dns-restriction : tie.Need-sub-dns-restriction
 sub-dns-restriction c = search needs
 
--- src/lib.rt:330:32
+-- src/lib.rt:344:32
 part-dns-restriction-start : tie.Need-part-dns-restriction-start
 part-dns-restriction-start c = search needs
 
--- src/lib.rt:330:32
+-- src/lib.rt:344:32
 part-dns-restriction-end : tie.Need-part-dns-restriction-end
 part-dns-restriction-end c = search needs
 
--- src/lib.rt:330:9
+-- src/lib.rt:344:9
 dns-restriction-requires : tie.Need-dns-restriction-requires
 dns-restriction-requires c κs = search needs
 
--- src/lib.rt:330:9
+-- src/lib.rt:344:9
 returns-2 : tie.Need-returns-2
 returns-2 c = search (needs, laws)
 
--- src/lib.rt:332:5
-good-name-requires : tie.Need-good-name-requires
-good-name-requires c κs = search needs
+-- src/lib.rt:346:5
+good-plain-requires : tie.Need-good-plain-requires
+good-plain-requires c κs = search needs
 
--- src/lib.rt:321:1
+-- src/lib.rt:335:1
 returns-3 : tie.Need-returns-3
 returns-3 c = search (needs, laws)
 
@@ -55,5 +55,5 @@ good-subtree-name-spec =
     part-dns-restriction-end
     dns-restriction-requires
     returns-2
-    good-name-requires
+    good-plain-requires
     returns-3)
