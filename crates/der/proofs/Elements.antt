@@ -175,16 +175,21 @@ found-room s at end h fits there =
     by-cases (ltb (end - at) 2) (λ e. absurd (true≢false (sym there ∙ ap found? (sym (element-none s end fits at h (ltb-true (end - at) 2 e))))))
     (λ e. omega (arith, ltb-false (end - at) 2 e))
 
+-- one in short form, where the part has as many bytes as its length says
+pub short-element : (s : List ℕ) (at end : ℕ) → at + 2 ≤ end → end ≤ length s → (x : ℕ) → x ≡ getD s (at + 1) 0 → x < 128 → at + 2 + x ≤ end
+    → elementAt s at end ≡ Found (getD s at 0) (at + 2) (at + 2 + x)
+short-element s at end h fits x x-is short k =
+    sym (element-short s end fits at (omega arith) (omega arith) x x-is short _ (placed-found s end fits (getD s at 0) (at + 2) x h (omega arith)))
+
 module _ (s : List ℕ) (at end : ℕ) (h : at + 2 ≤ end) (fits : end ≤ length s) (there : found? (elementAt s at end) ≡ true) where
   -- in short form
   module _ (x : ℕ) (x-is : x ≡ getD s (at + 1) 0) (short : x < 128) where
     short-found : elementAt s at end ≡ Found (getD s at 0) (at + 2) (at + 2 + x)
     short-found =
-        let at-is = element-short s end fits at (omega arith) (omega arith) x x-is short in
-        by-cases (leb x (end - (at + 2)))
-        (λ e. sym (at-is _ (placed-found s end fits (getD s at 0) (at + 2) x h (leb-true x (end - (at + 2)) e))))
+        by-cases (leb x (end - (at + 2))) (λ e. short-element s at end h fits x x-is short (omega (arith, leb-true x (end - (at + 2)) e)))
         (λ e.
-        let none = at-is _ (placed-long s end fits (getD s at 0) (at + 2) x h (leb-false x (end - (at + 2)) e)) in
+        let gone = placed-long s end fits (getD s at 0) (at + 2) x h (leb-false x (end - (at + 2)) e) in
+        let none = element-short s end fits at (omega arith) (omega arith) x x-is short _ gone in
         absurd (true≢false (sym there ∙ ap found? (sym none))))
 
     pub short-end : at + 2 + x ≡ endOf (elementAt s at end)

@@ -1,3 +1,4 @@
 pub mod Counting
+pub mod Usual
 pub mod Sides
 pub mod Laws
