@@ -7,16 +7,14 @@ use native.Mathlib.Omega.{arith}
 use lib.ListN.{length, getD}
 use lib.Seq.{slice-empty}
 use Rattle.rules.specs.Bytes.{upTo}
-use Rattle.der.specs.Places.{elementAt, taggedAt, valueAt}
+use Rattle.der.specs.Places.{elementAt}
 use Rattle.der.specs.Reads.{Read, found-read}
-use Rattle.der.specs.declared.Element.{Element}
 use Rattle.der.specs.declared.Element.the-variants.{Found}
 use Rattle.der.proofs.Elements.{short-element, tagged-same, value-good}
 use Rattle.entries.specs.Entries.{cnOidAt, kindBy, attributeAt, goodNameAt}
-use Rattle.entries.specs.declared.Name.{Name}
 use Rattle.entries.specs.declared.Name.the-variants.{Is}
 use Rattle.entries.proofs.Shapes.{attribute-is}
-use Rattle.strings.specs.Counts.{namesOn, orderAt, setAt, setOn, setsOn}
+use Rattle.strings.specs.Counts.{namesOn, orderAt, setAt, setsOn}
 use Rattle.strings.specs.Usual.{Sufficient, Short, UsualName, UsualAttribute, UsualSet}
 use Rattle.strings.specs.declared.Count.{Count}
 use Rattle.strings.specs.declared.Count.the-variants.{Of}
