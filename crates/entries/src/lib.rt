@@ -8,6 +8,7 @@ use der::value;
 use dns::dns_restriction;
 use octets::same_bytes;
 use octets::wide;
+use rules::SRV_OID;
 use srv::restriction;
 use words::word;
 ghost use Prim.Native.Nat.{_+_, _≤_};
@@ -18,9 +19,6 @@ ghost use Rattle.rules.specs.San.{textTag, sealedTag};
 ghost use Rattle.rules.specs.Matching.{srvText, taggedText};
 ghost use Rattle.reading.specs.Reader.{isSome};
 ghost use Rattle.entries.specs.Entries.{srvOidAt, cnOidAt, otherAt, nameAt, kindBy, attributeAt, subtreeAt, asciiAt, goodSrvAt, goodNameAt, goodSubtreeNameAt, goodSubtreeAt, formOf, wholeAt, textPlace};
-
-// "the eight bytes 2B 06 01 05 05 07 08 07" as one number, the first the lowest.
-const SRV_OID: u64 = 0x070807050501062B;
 
 // "The CN's OID content is 55 04 03."
 const CN_OID: [u8; 3] = [0x55, 0x04, 0x03];
@@ -33,7 +31,7 @@ pub enum Name {
     Malformed,
 }
 
-// Whether the bytes from start to end are the OID of an SRVName.
+// Whether the bytes from start to end are the OID of an SRVName: eight bytes, compared as one number.
 fn is_srv_oid(s: &[u8], start: usize, end: usize) -> bool
     requires { ⌜ start ≤ end ⌝ }
     requires { ⌜ end ≤ length (now s) ⌝ }
@@ -42,7 +40,7 @@ fn is_srv_oid(s: &[u8], start: usize, end: usize) -> bool
     if end - start != 8 {
         return false;
     }
-    word(s, start) == SRV_OID
+    word(s, start) == word(&SRV_OID, 0)
 }
 
 // Whether the bytes from start to end are the OID of a CN.
