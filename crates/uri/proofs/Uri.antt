@@ -153,34 +153,33 @@ module _ (a d s : List ℕ) where
   pub match-no-colon : (getD s (length a) 0 ≡ 0x3A → ⊥) → false ≡ uriMatches a d s
   match-no-colon n = fails _ (λ e. n (eqb-true _ _ (passes-at (is colon) s (length a) (place e) (has-colon e))))
 
+  -- another scheme
+  pub match-other-scheme : (r : Bool) → r ≡ sameText (take (length a) s) a → not r ≡ true → false ≡ uriMatches a d s
+  match-other-scheme r f h =
+      fails _ (λ e. clash (scheme-same e) (rw (← scheme-is s (length a) (place e)) (sym f ∙ not-true r h)))
+
   module _ (tail : List ℕ) (is-tail : tail ≡ drop (length a + 1) s) (m : Bool) (is-m : m ≡ begins slashes tail) where
     -- what follows the place is what follows the colon
     tail-after : uriMatches a d s ≡ true → tail ≡ after (is colon) s
     tail-after e = is-tail ∙ tail-is s (length a) (place e)
 
     -- no "//"
-    pub match-no-slashes : not m ≡ true → false ≡ uriMatches a d s
-    match-no-slashes h = fails _ (λ e. clash (is-slashed e) (rw (← tail-after e) (sym is-m ∙ not-true m h)))
+    pub match-no-slashes : m ≡ false → false ≡ uriMatches a d s
+    match-no-slashes h = fails _ (λ e. clash (is-slashed e) (rw (← tail-after e) (sym is-m ∙ h)))
 
-    module _ (rest h : List ℕ) (r : Bool) (is-rest : rest ≡ drop 2 tail) (is-h : h ≡ hostPort rest) (is-r : r ≡ hostMatches d h) where
-      -- another host
-      pub match-other-host : r ≡ false → false ≡ uriMatches a d s
-      match-other-host o = fails _ (λ e. clash (is-host e) (rw (← tail-after e, ← is-rest, ← is-h) (sym is-r ∙ o)))
-
-      -- the host and "//": the scheme decides
-      pub match-scheme : scheme a ≡ true → r ≡ true → not m ≡ false → length a < length s → getD s (length a) 0 ≡ 0x3A
-          → (q : Bool) → q ≡ sameText (take (length a) s) a → q ≡ uriMatches a d s
-      match-scheme good o n l c q is-q =
-          by-cases q
-          (λ k.
-          let same : sameText (take (length a) s) a ≡ true = sym is-q ∙ k in
-          let known : scheme (take (length a) s) ≡ true = same-schemes (take (length a) s) a same ∙ good in
-          let b : before (is colon) s ≡ take (length a) s =
-          before-at (is colon) s (length a) l (scheme-no-colon (take (length a) s) known) (eq-eqb _ _ c) in
-          let at : length a ≡ length (before (is colon) s) = sym (ap length b ∙ length-take-le (length a) s (omega arith)) in
-          k ∙ sym (match-is s a d
-          ∙ rw (← scheme-is s (length a) at, ← tail-is s (length a) at, ← is-tail, ← is-m, not-false m n, ← is-rest, ← is-h, ← is-r, o, known, same)))
-          (λ k. k ∙ fails _ (λ e. clash (scheme-same e) (rw (← scheme-is s (length a) (place e)) (sym is-q ∙ k))))
+    -- the same scheme and "//": the host decides
+    pub match-host : scheme a ≡ true → (q : Bool) → q ≡ sameText (take (length a) s) a → not q ≡ false → length a < length s
+        → getD s (length a) 0 ≡ 0x3A → m ≡ true → (rest h : List ℕ) (r : Bool) → rest ≡ drop 2 tail → h ≡ hostPort rest → r ≡ hostMatches d h
+        → r ≡ uriMatches a d s
+    match-host good q is-q o l c n rest h r is-rest is-h is-r =
+        let same : sameText (take (length a) s) a ≡ true = sym is-q ∙ not-false q o in
+        let known : scheme (take (length a) s) ≡ true = same-schemes (take (length a) s) a same ∙ good in
+        let b : before (is colon) s ≡ take (length a) s =
+        before-at (is colon) s (length a) l (scheme-no-colon (take (length a) s) known) (eq-eqb _ _ c) in
+        let at : length a ≡ length (before (is colon) s) = sym (ap length b ∙ length-take-le (length a) s (omega arith)) in
+        sym (match-is s a d
+        ∙ rw (← scheme-is s (length a) at, ← tail-is s (length a) at, ← is-tail, ← is-m, n, ← is-rest, ← is-h, ← is-r, known, same)
+        (and-true r))
 
   -- a reference that is not good
   pub match-no-scheme : (r : Bool) → r ≡ scheme a → not r ≡ true → false ≡ uriMatches a d s

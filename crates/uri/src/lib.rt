@@ -118,7 +118,7 @@ fn host_matches(domain: &[u8], h: &[u8]) -> bool
     if h.len() < n {
         return false;
     }
-    let same = octets::same_early(&h[..n], domain);
+    let same = octets::same_text(&h[..n], domain);
     if !same {
         return false;
     }
@@ -133,7 +133,7 @@ fn host_matches(domain: &[u8], h: &[u8]) -> bool
 }
 
 // "Service or scheme and domain must both match, without case": of a reference whose scheme and domain are good. The lengths leave one
-// place for the colon. The host differs more often than the scheme, and is compared first.
+// place for the colon.
 pub fn scheme_matches(scheme: &[u8], domain: &[u8], text: &[u8]) -> bool
     requires { ⌜ rules.scheme (now scheme) ≡ true ⌝ }
     requires { ⌜ rules.domain (now domain) ≡ true ⌝ }
@@ -146,16 +146,16 @@ pub fn scheme_matches(scheme: &[u8], domain: &[u8], text: &[u8]) -> bool
     if text[n] != 0x3A {
         return false;
     }
-    let tail = octets::from(text, n + 1);
-    let slashes = slashed(tail);
-    if !slashes {
+    let same = octets::same_text(&text[..n], scheme);
+    if !same {
         return false;
     }
-    let rest = octets::from(tail, 2);
-    let h = host_and_port(rest);
-    let there = host_matches(domain, h);
-    if there {
-        return octets::same_text(&text[..n], scheme);
+    let tail = octets::from(text, n + 1);
+    let slashes = slashed(tail);
+    if slashes {
+        let rest = octets::from(tail, 2);
+        let h = host_and_port(rest);
+        return host_matches(domain, h);
     }
     false
 }

@@ -6,19 +6,19 @@ use Rattle.uri.proofs.host_matches.Reads as reads
 use Rattle.uri.proofs.host_matches.Lts as lts
 use Rattle.octets.proofs.digits.Reads as digits-reads
 use Rattle.octets.proofs.from.Reads as from-reads
-use Rattle.octets.proofs.same_early.Reads as same-early-reads
+use Rattle.octets.proofs.same_text.Reads as same-text-reads
 
 -- src/lib.rt:119:9
 returns : tie.Need-returns
 returns c = search (needs, laws)
 
--- src/lib.rt:121:35
-slice-aggregate-same-early : tie.Need-slice-aggregate-same-early
-slice-aggregate-same-early c = search (needs, laws)
+-- src/lib.rt:121:34
+slice-aggregate-same-text : tie.Need-slice-aggregate-same-text
+slice-aggregate-same-text c = search (needs, laws)
 
 -- src/lib.rt:121:9
-same-early-requires : tie.Need-same-early-requires
-same-early-requires c κs = search needs
+same-text-requires : tie.Need-same-text-requires
+same-text-requires c κs = search needs
 
 -- src/lib.rt:123:9
 returns-2 : tie.Need-returns-2
@@ -57,8 +57,8 @@ host-matches-spec =
     tie.close
     (tie.spec
     returns
-    slice-aggregate-same-early
-    same-early-requires
+    slice-aggregate-same-text
+    same-text-requires
     returns-2
     returns-3
     shared-slice-read-if4

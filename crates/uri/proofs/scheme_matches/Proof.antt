@@ -22,41 +22,41 @@ shared-slice-read-if2 c = search needs
 returns-2 : tie.Need-returns-2
 returns-2 c = search (needs, laws)
 
--- src/lib.rt:149:35
-add-from : tie.Need-add-from
-add-from c = search needs
-
--- src/lib.rt:149:9
-from-requires : tie.Need-from-requires
-from-requires c κs = search needs
-
--- src/lib.rt:150:9
-slashed-requires : tie.Need-slashed-requires
-slashed-requires c κs = search needs
-
--- src/lib.rt:152:9
-returns-3 : tie.Need-returns-3
-returns-3 c = search (needs, laws)
-
--- src/lib.rt:154:9
-from-requires-2 : tie.Need-from-requires-2
-from-requires-2 c κs = search (needs, laws)
-
--- src/lib.rt:155:9
-host-and-port-requires : tie.Need-host-and-port-requires
-host-and-port-requires c κs = search needs
-
--- src/lib.rt:156:9
-host-matches-requires : tie.Need-host-matches-requires
-host-matches-requires c κs = search needs
-
--- src/lib.rt:158:34
+-- src/lib.rt:149:34
 slice-aggregate-same-text : tie.Need-slice-aggregate-same-text
 slice-aggregate-same-text c = search (needs, laws)
 
--- src/lib.rt:158:9
+-- src/lib.rt:149:9
 same-text-requires : tie.Need-same-text-requires
 same-text-requires c κs = search needs
+
+-- src/lib.rt:151:9
+returns-3 : tie.Need-returns-3
+returns-3 c = search (needs, laws)
+
+-- src/lib.rt:153:35
+add-from : tie.Need-add-from
+add-from c = search needs
+
+-- src/lib.rt:153:9
+from-requires : tie.Need-from-requires
+from-requires c κs = search needs
+
+-- src/lib.rt:154:9
+slashed-requires : tie.Need-slashed-requires
+slashed-requires c κs = search needs
+
+-- src/lib.rt:156:13
+from-requires-2 : tie.Need-from-requires-2
+from-requires-2 c κs = search (needs, laws)
+
+-- src/lib.rt:157:13
+host-and-port-requires : tie.Need-host-and-port-requires
+host-and-port-requires c κs = search needs
+
+-- src/lib.rt:158:9
+host-matches-requires : tie.Need-host-matches-requires
+host-matches-requires c κs = search needs
 
 -- src/lib.rt:158:9
 returns-4 : tie.Need-returns-4
@@ -73,14 +73,14 @@ scheme-matches-spec =
     returns
     shared-slice-read-if2
     returns-2
+    slice-aggregate-same-text
+    same-text-requires
+    returns-3
     add-from
     from-requires
     slashed-requires
-    returns-3
     from-requires-2
     host-and-port-requires
     host-matches-requires
-    slice-aggregate-same-text
-    same-text-requires
     returns-4
     returns-5)
