@@ -1,15 +1,15 @@
 -- An element that is found says what was read, as parts of the slice.
-use Prim.Native.Nat.{ℕ, zero, suc, _+_, _-_, _≤_, _<_}
+use Prim.Native.Nat.{ℕ, _+_, _-_, _≤_, _<_}
 use mathlib.Core.Path.{_≡_, refl, sym, ap, _∙_}
 use mathlib.Core.Bool.{Bool, true, false, cond, not}
 use mathlib.Core.Option.{Option, none, some}
 use mathlib.Core.List.{List, [], _∷_, _++_, append-assoc}
 use native.Mathlib.Omega.{arith}
-use native.Mathlib.Nat.{zero-add, suc-add}
 use lib.ListN.{length, take, drop, length-append}
 use lib.Dec.{T, eqb, eqb→eq}
-use lib.Seq.{slice, slice-empty, slice-cons, length-slice, drop-drop, drop-at, take-at, take-nil, take-take}
+use lib.Seq.{slice, slice-empty, slice-cons, length-slice, drop-drop, drop-at, take-at, take-take}
 use borrow.Author.Tests.{eqb-true, eqb-false, eq-eqb, ne-eqb}
+use Rattle.octets.proofs.Parts.{take-of-drop}
 use Rattle.rules.specs.Der.{lengthBytes, element, goodTag}
 use Rattle.rules.specs.San.{goodValue, sealed}
 use Rattle.reading.specs.Reader.{then, when, Refusal, truncated, badLength, Front, got, refused, thenF, at-end, Raw, raw, writeRaw, readElement, tagged, alone, two}
@@ -20,11 +20,6 @@ use Rattle.der.specs.declared.Element.{Element}
 use Rattle.der.specs.declared.Element.the-variants.{Found, Truncated, BadLength, BadTag}
 
 -- ---- parts of parts
-
-pub take-of-drop : (k f : ℕ) (l : List ℕ) → take k (drop f l) ≡ drop f (take (f + k) l)
-take-of-drop k zero l = rw zero-add
-take-of-drop k (suc f) [] = rw suc-add (take-nil k)
-take-of-drop k (suc f) (x ∷ l) = rw suc-add (take-of-drop k f l)
 
 -- a part of a slice, as code cuts it
 pub part-is : (s : List ℕ) (start end : ℕ) → start ≤ end → take (end - start) (drop start s) ≡ slice start end s

@@ -3,21 +3,19 @@ use der::element_end;
 use filter::TABLE_SIZE;
 use filter::may_match;
 use filter::note;
-use octets::wide;
 use presented::Entry;
 use presented::entry_text;
 use presented::first_set;
 use presented::names_start;
 use presented::set_at;
+use records::domain_of;
+use records::kind_of;
+use records::service_of;
 use rules::CN;
 use rules::DNS;
-use rules::DOMAIN_AT;
-use rules::DOMAIN_LENGTH_AT;
 use rules::Outcome;
 use rules::Place;
 use rules::RECORD_SIZE;
-use rules::SERVICE_AT;
-use rules::SERVICE_LENGTH_AT;
 use rules::SRV;
 use rules::URI;
 use rules::Witness;
@@ -35,46 +33,13 @@ ghost use Rattle.rules.specs.Verdict.{matchedOr};
 ghost use Rattle.reading.specs.Strings.{readSan, readSubject};
 ghost use Rattle.der.specs.Runs.{validated, namesOf};
 ghost use Rattle.presented.specs.Presented.{shownAt};
-ghost use Rattle.pairs.specs.Pairs.{referenceAt, textAt, entryMatches, witnessAt, foundFor, foundBetween, heldBy, firstEntry, Filters, HeldFits, OutcomeFits};
+ghost use Rattle.records.specs.References.{referenceAt};
+ghost use Rattle.pairs.specs.Pairs.{textAt, entryMatches, witnessAt, foundFor, foundBetween, heldBy, firstEntry, Filters, HeldFits, OutcomeFits};
 
 // The witness of the first identifier that matches, if one does.
 enum Held {
     By(Witness),
     Nothing,
-}
-
-// The kind of a reference.
-fn kind_of(references: &[u8], i: usize) -> u8
-    requires { ⌜ i < length (now references) / recordSize ⌝ }
-    ensures { λ r. ⌜ r ≡ referenceAt (now (references .entry)) i .kind ⌝ }
-{
-    references[i * RECORD_SIZE]
-}
-
-// "Byte 2 service length .. Bytes 4 to 66 service"
-fn service_of(references: &[u8], i: usize) -> &[u8]
-    requires { ⌜ goodRecords (now references) ≡ true ⌝ }
-    requires { ⌜ i < length (now references) / recordSize ⌝ }
-    ensures { λ r. ⌜ now r ≡ referenceAt (now (references .entry)) i .service ⌝ }
-{
-    let at = i * RECORD_SIZE;
-    let from = at + SERVICE_AT;
-    let n = wide(references[at + SERVICE_LENGTH_AT]);
-    let to = from + n;
-    &references[from..to]
-}
-
-// "byte 3 domain length .. 67 to 319 domain"
-fn domain_of(references: &[u8], i: usize) -> &[u8]
-    requires { ⌜ goodRecords (now references) ≡ true ⌝ }
-    requires { ⌜ i < length (now references) / recordSize ⌝ }
-    ensures { λ r. ⌜ now r ≡ referenceAt (now (references .entry)) i .domain ⌝ }
-{
-    let at = i * RECORD_SIZE;
-    let from = at + DOMAIN_AT;
-    let n = wide(references[at + DOMAIN_LENGTH_AT]);
-    let to = from + n;
-    &references[from..to]
 }
 
 // Whether a text matches a good reference, whose domain has its first dot at `first`. "A reference matches only its own kind"; a good

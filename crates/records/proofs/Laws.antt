@@ -18,6 +18,7 @@ use Rattle.rules.specs.Names.{is, dot, service, scheme, domain}
 use Rattle.rules.specs.Records.{Reference, reference, referenceOf, filled, goodService, goodReference, goodRecord, split, recordsOf, goodRecords, noRecord, shown}
 use Rattle.rules.specs.declared.Shown.{Shown}
 use Rattle.records.specs.Small.{SmallShown}
+use Rattle.records.proofs.References.{kind-room, kind-is, service-end, service-is, domain-end, domain-is}
 use Rattle.records.proofs.Split.{count-is, record-at, shown-past, shown-at, byte-at}
 
 -- ---- filled
@@ -209,6 +210,12 @@ pub inside : (b : List ℕ) (i k : ℕ) → i < length b / recordSize → k < re
 inside b i k h l = omega arith
 
 pub ruleset laws = (
+  kind-room,
+  kind-is,
+  service-end,
+  service-is,
+  domain-end,
+  domain-is,
   filled-short,
   filled-rest,
   service-dns,

@@ -16,12 +16,15 @@ use rules::SERVICE_SIZE;
 use rules::SRV;
 use rules::Shown;
 use rules::URI;
+ghost use Prim.Native.Nat.{_<_, _/_};
 ghost use mathlib.Core.Path.{_≡_};
+ghost use mathlib.Core.Bool.{true};
 ghost use lib.ListN.{length};
 ghost use Rattle.rules.specs.Numbers.{recordSize};
 ghost use Rattle.rules.specs.Records as records;
 ghost use Rattle.rules.specs.Records.{reference};
 ghost use Rattle.records.specs.Small.{SmallShown};
+ghost use Rattle.records.specs.References.{referenceAt};
 
 // Whether a text of n bytes fits its field, "filled with zeros".
 fn filled(field: &[u8], n: usize) -> bool
@@ -150,4 +153,38 @@ pub fn show(references: &[u8], index: usize) -> Shown
         service: service,
         domain: domain,
     }
+}
+
+// The kind of a reference.
+pub fn kind_of(references: &[u8], i: usize) -> u8
+    requires { ⌜ i < length (now references) / recordSize ⌝ }
+    ensures { λ r. ⌜ r ≡ referenceAt (now (references .entry)) i .kind ⌝ }
+{
+    references[i * RECORD_SIZE]
+}
+
+// "Byte 2 service length .. Bytes 4 to 66 service"
+pub fn service_of(references: &[u8], i: usize) -> &[u8]
+    requires { ⌜ records.goodRecords (now references) ≡ true ⌝ }
+    requires { ⌜ i < length (now references) / recordSize ⌝ }
+    ensures { λ r. ⌜ now r ≡ referenceAt (now (references .entry)) i .service ⌝ }
+{
+    let at = i * RECORD_SIZE;
+    let from = at + SERVICE_AT;
+    let n = wide(references[at + SERVICE_LENGTH_AT]);
+    let to = from + n;
+    &references[from..to]
+}
+
+// "byte 3 domain length .. 67 to 319 domain"
+pub fn domain_of(references: &[u8], i: usize) -> &[u8]
+    requires { ⌜ records.goodRecords (now references) ≡ true ⌝ }
+    requires { ⌜ i < length (now references) / recordSize ⌝ }
+    ensures { λ r. ⌜ now r ≡ referenceAt (now (references .entry)) i .domain ⌝ }
+{
+    let at = i * RECORD_SIZE;
+    let from = at + DOMAIN_AT;
+    let n = wide(references[at + DOMAIN_LENGTH_AT]);
+    let to = from + n;
+    &references[from..to]
 }

@@ -13,13 +13,13 @@ use Rattle.pairs.proofs.first_between.Reads as reads
 use Rattle.pairs.proofs.first_between.Lts as lts
 use Rattle.der.proofs.element_end.Reads as element-end-reads
 use Rattle.octets.proofs.find.Reads as find-reads
-use Rattle.pairs.proofs.domain_of.Reads as domain-of-reads
+use Rattle.records.proofs.domain_of.Reads as domain-of-reads
 use Rattle.pairs.proofs.entry_witness.Reads as entry-witness-reads
 use Rattle.pairs.proofs.first_cn.Reads as first-cn-reads
 use Rattle.pairs.proofs.first_entry.Reads as first-entry-reads
-use Rattle.pairs.proofs.kind_of.Reads as kind-of-reads
+use Rattle.records.proofs.kind_of.Reads as kind-of-reads
 use Rattle.pairs.proofs.name_matches.Reads as name-matches-reads
-use Rattle.pairs.proofs.service_of.Reads as service-of-reads
+use Rattle.records.proofs.service_of.Reads as service-of-reads
 use Rattle.presented.proofs.entry_text.Reads as entry-text-reads
 use Rattle.presented.proofs.names_start.Reads as names-start-reads
 

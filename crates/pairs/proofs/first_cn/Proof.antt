@@ -6,7 +6,7 @@ use Rattle.pairs.proofs.first_cn.Statement.{statement}
 use Rattle.pairs.proofs.first_cn.Tie as tie
 use Rattle.pairs.proofs.first_cn.Reads as reads
 use Rattle.pairs.proofs.first_cn.Lts as lts
-use Rattle.pairs.proofs.domain_of.Reads as domain-of-reads
+use Rattle.records.proofs.domain_of.Reads as domain-of-reads
 use Rattle.pairs.proofs.set_matches.Reads as set-matches-reads
 use Rattle.presented.proofs.first_set.Reads as first-set-reads
 use Rattle.presented.proofs.set_at.Reads as set-at-reads
