@@ -1,6 +1,5 @@
 use mathlib.Core.Logic.{⊎-elim}
 use Prim.Native.Nat.{_-_}
-use native.Mathlib.Omega.{arith}
 use mathlib.Core.Path.{_≡_}
 use Rattle.reading.specs.Strings.{readName}
 use Rattle.entries.proofs.Steps.{step-found, step-room, step-counts, steps, names}
@@ -36,69 +35,54 @@ Inv-pairs references from to san subject table start found₀ i₀ found i = (fo
 abbrev μ-pairs : tie.MeasureT-pairs
 μ-pairs references from to san subject table start found₀ i₀ found i = to - i
 
--- src/lib.rt:229:9
 names-start-requires : tie.Need-names-start-requires Inv-loop μ-loop Inv-pairs μ-pairs
 names-start-requires c κs = search (needs, pair-laws, steps, names)
 
--- src/lib.rt:232:5
 pairs-holds : tie.Need-pairs-holds Inv-loop μ-loop Inv-pairs μ-pairs
 pairs-holds c = search (needs, pair-laws, steps, names)
 
--- src/lib.rt:233:13
 kind-of-requires : tie.Need-kind-of-requires Inv-loop μ-loop Inv-pairs μ-pairs
 kind-of-requires c κs = search (needs, pair-laws, steps, names)
 
--- src/lib.rt:235:17
 first-cn-requires : tie.Need-first-cn-requires Inv-loop μ-loop Inv-pairs μ-pairs
 first-cn-requires c κs = (search needs, (search (needs, walks-index), (search (needs, cn-kind), (search needs, search needs))))
 
--- src/lib.rt:236:29
 enum-known-c : tie.Need-enum-known-c Inv-loop μ-loop Inv-pairs μ-pairs
 enum-known-c c = search (needs, pair-laws, steps, names)
 
 enum-told : tie.Need-enum-told Inv-loop μ-loop Inv-pairs μ-pairs
 enum-told c = search (needs, pair-laws, steps, names)
 
--- src/lib.rt:241:17
 service-of-requires : tie.Need-service-of-requires Inv-loop μ-loop Inv-pairs μ-pairs
 service-of-requires c κs = search (needs, pair-laws, steps, names)
 
--- src/lib.rt:242:17
 domain-of-requires : tie.Need-domain-of-requires Inv-loop μ-loop Inv-pairs μ-pairs
 domain-of-requires c κs = search (needs, pair-laws, steps, names)
 
--- src/lib.rt:243:17
 find-requires : tie.Need-find-requires Inv-loop μ-loop Inv-pairs μ-pairs
 find-requires c κs = search (needs, pair-laws, steps, names)
 
--- src/lib.rt:245:17
 first-entry-requires : tie.Need-first-entry-requires Inv-loop μ-loop Inv-pairs μ-pairs
 first-entry-requires c κs = search (needs, pair-laws, steps, names)
 
--- src/lib.rt:247:13
 loop-holds : tie.Need-loop-holds Inv-loop μ-loop Inv-pairs μ-pairs
 loop-holds c = search (needs, pair-laws, steps, names)
 
--- src/lib.rt:248:21
 element-end-requires : tie.Need-element-end-requires Inv-loop μ-loop Inv-pairs μ-pairs
 element-end-requires c κs =
     let run = c .before .loop .inv .1 .entries in
     let more = c .loop-test .taken in
     (step-room readName _ _ _ run more, (run .fits, step-found readName _ _ _ run more))
 
--- src/lib.rt:249:21
 entry-text-requires : tie.Need-entry-text-requires Inv-loop μ-loop Inv-pairs μ-pairs
 entry-text-requires c κs = search (needs, pair-laws, steps, names)
 
--- src/lib.rt:250:21
 name-matches-requires : tie.Need-name-matches-requires Inv-loop μ-loop Inv-pairs μ-pairs
 name-matches-requires c κs = search (needs, pair-laws, steps, names)
 
--- src/lib.rt:252:25
 entry-witness-requires : tie.Need-entry-witness-requires Inv-loop μ-loop Inv-pairs μ-pairs
 entry-witness-requires c κs = (search (needs, name-start), search (needs, name-text))
 
--- src/lib.rt:257:17
 add-j : tie.Need-add-j Inv-loop μ-loop Inv-pairs μ-pairs
 add-j c =
     let w = c .before .before .before .before .before .loop .inv .1 in
@@ -106,35 +90,27 @@ add-j c =
     let o = c .before .before .before .element-end .ok in
     search (needs, k, o)
 
--- src/lib.rt:247:13
 loop-less : tie.Need-loop-less Inv-loop μ-loop Inv-pairs μ-pairs
 loop-less c = search (needs, pair-laws, steps, names)
 
--- src/lib.rt:247:13
 loop-again : tie.Need-loop-again Inv-loop μ-loop Inv-pairs μ-pairs
 loop-again c = search (needs, pair-laws, steps, names)
 
--- src/lib.rt:260:9
 add-i : tie.Need-add-i Inv-loop μ-loop Inv-pairs μ-pairs
 add-i c = search (needs, pair-laws, steps, names)
 
--- src/lib.rt:232:5
 pairs-less : tie.Need-pairs-less Inv-loop μ-loop Inv-pairs μ-pairs
 pairs-less c = search (needs, pair-laws, steps, names)
 
--- src/lib.rt:232:5
 pairs-again : tie.Need-pairs-again Inv-loop μ-loop Inv-pairs μ-pairs
 pairs-again c = ⊎-elim (λ w. search (needs, pair-laws, steps, names)) (λ w. search (needs, pair-laws, steps, names)) (c .if1 .came)
 
--- src/lib.rt:212:1
 returns : tie.Need-returns Inv-loop μ-loop Inv-pairs μ-pairs
 returns c = search (needs, pair-laws, steps, names)
 
--- src/lib.rt:212:1
 returns-2 : tie.Need-returns-2 Inv-loop μ-loop Inv-pairs μ-pairs
 returns-2 c = search (needs, pair-laws, steps, names)
 
--- src/lib.rt:212:1
 returns-3 : tie.Need-returns-3 Inv-loop μ-loop Inv-pairs μ-pairs
 returns-3 c = (search (needs, name-hit), search (needs, name-fits))
 

@@ -17,43 +17,33 @@ Inv-loop references i san subject domain at₀ j₀ at j = Sets references san s
 abbrev μ-loop : tie.MeasureT-loop
 μ-loop references i san subject domain at₀ j₀ at j = length subject - at
 
--- src/lib.rt:137:9
 domain-of-requires : tie.Need-domain-of-requires Inv-loop μ-loop
 domain-of-requires c κs = search (needs, set-laws)
 
--- src/lib.rt:138:9
 first-set-requires : tie.Need-first-set-requires Inv-loop μ-loop
 first-set-requires c κs = search (needs, set-laws)
 
--- src/lib.rt:140:5
 loop-holds : tie.Need-loop-holds Inv-loop μ-loop
 loop-holds c = search (needs, set-laws)
 
--- src/lib.rt:141:13
 set-at-requires : tie.Need-set-at-requires Inv-loop μ-loop
 set-at-requires c κs = search (needs, set-laws)
 
--- src/lib.rt:142:13
 set-matches-requires : tie.Need-set-matches-requires Inv-loop μ-loop
 set-matches-requires c κs = search (needs, set-laws)
 
--- src/lib.rt:146:13
 returns : tie.Need-returns Inv-loop μ-loop
 returns c = search (needs, set-laws)
 
--- src/lib.rt:155:9
 add-j : tie.Need-add-j Inv-loop μ-loop
 add-j c = search (needs, set-laws)
 
--- src/lib.rt:140:5
 loop-less : tie.Need-loop-less Inv-loop μ-loop
 loop-less c = search (needs, set-laws)
 
--- src/lib.rt:140:5
 loop-again : tie.Need-loop-again Inv-loop μ-loop
 loop-again c = search (needs, set-laws)
 
--- src/lib.rt:128:1
 returns-2 : tie.Need-returns-2 Inv-loop μ-loop
 returns-2 c = search (needs, set-laws)
 

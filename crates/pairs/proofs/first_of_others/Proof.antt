@@ -7,28 +7,22 @@ use Rattle.pairs.proofs.first_of_others.Lts as lts
 use Rattle.filter.proofs.note.Reads as note-reads
 use Rattle.pairs.proofs.first_between.Reads as first-between-reads
 
--- src/lib.rt:276:9
 returns : tie.Need-returns
 returns c = (search (needs, others-none), search (needs, held-fits))
 
--- src/lib.rt:279:15
 slice-aggregate-note : tie.Need-slice-aggregate-note
 slice-aggregate-note c = search needs
 
--- src/lib.rt:279:5
 note-requires : tie.Need-note-requires
 note-requires c κs = search needs
 
--- src/lib.rt:280:51
 slice-aggregate-first-between : tie.Need-slice-aggregate-first-between
 slice-aggregate-first-between c = search needs
 
--- src/lib.rt:280:5
 first-between-requires : tie.Need-first-between-requires
 first-between-requires c κs =
     (search needs, (search needs, (search (needs, others-few), (search needs, (search needs, search (needs, filters-all))))))
 
--- src/lib.rt:267:1
 returns-2 : tie.Need-returns-2
 returns-2 c = (search (needs, others-are), search needs)
 

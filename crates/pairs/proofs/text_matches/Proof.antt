@@ -8,27 +8,21 @@ use Rattle.dns.proofs.domain_matches.Reads as domain-matches-reads
 use Rattle.srv.proofs.service_matches.Reads as service-matches-reads
 use Rattle.uri.proofs.scheme_matches.Reads as scheme-matches-reads
 
--- src/lib.rt:84:9
 service-matches-requires : tie.Need-service-matches-requires
 service-matches-requires c κs = search (needs, laws)
 
--- src/lib.rt:84:9
 returns : tie.Need-returns
 returns c = search (needs, laws)
 
--- src/lib.rt:87:9
 scheme-matches-requires : tie.Need-scheme-matches-requires
 scheme-matches-requires c κs = search (needs, laws)
 
--- src/lib.rt:87:9
 returns-2 : tie.Need-returns-2
 returns-2 c = search (needs, laws)
 
--- src/lib.rt:89:5
 domain-matches-requires : tie.Need-domain-matches-requires
 domain-matches-requires c κs = search (needs, laws)
 
--- src/lib.rt:78:1
 returns-3 : tie.Need-returns-3
 returns-3 c = search (needs, laws)
 

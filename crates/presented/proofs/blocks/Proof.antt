@@ -6,27 +6,21 @@ use Rattle.presented.proofs.blocks.Reads as reads
 use Rattle.presented.proofs.blocks.Lts as lts
 use Rattle.presented.proofs.entry_text.Reads as entry-text-reads
 
--- src/lib.rt:249:9
 entry-text-requires : tie.Need-entry-text-requires
 entry-text-requires c κs = search needs
 
--- src/lib.rt:251:9
 returns : tie.Need-returns
 returns c = search (needs, laws)
 
--- src/lib.rt:253:9
 entry-text-requires-2 : tie.Need-entry-text-requires-2
 entry-text-requires-2 c κs = search needs
 
--- src/lib.rt:255:9
 returns-2 : tie.Need-returns-2
 returns-2 c = search (needs, laws)
 
--- src/lib.rt:257:9
 entry-text-requires-3 : tie.Need-entry-text-requires-3
 entry-text-requires-3 c κs = search needs
 
--- src/lib.rt:243:1
 returns-3 : tie.Need-returns-3
 returns-3 c = search (needs, laws)
 

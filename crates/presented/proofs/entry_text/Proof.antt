@@ -8,35 +8,27 @@ use Rattle.presented.proofs.entry_text.Lts as lts
 use Rattle.entries.proofs.srv_text.Reads as srv-text-reads
 use Rattle.entries.proofs.tagged_text.Reads as tagged-text-reads
 
--- src/lib.rt:231:9
 tagged-text-requires : tie.Need-tagged-text-requires
 tagged-text-requires c κs = (search needs, (search needs, (search needs, λ e. omega arith)))
 
--- src/lib.rt:231:9
 returns : tie.Need-returns
 returns c = search (needs, laws)
 
--- src/lib.rt:234:9
 srv-text-requires : tie.Need-srv-text-requires
 srv-text-requires c κs = search needs
 
--- src/lib.rt:234:9
 returns-2 : tie.Need-returns-2
 returns-2 c = search (needs, laws)
 
--- src/lib.rt:237:9
 tagged-text-requires-2 : tie.Need-tagged-text-requires-2
 tagged-text-requires-2 c κs = (search needs, (search needs, (search needs, λ e. omega arith)))
 
--- src/lib.rt:237:9
 returns-3 : tie.Need-returns-3
 returns-3 c = search (needs, laws)
 
--- src/lib.rt:239:5
 add-result : tie.Need-add-result
 add-result c = search needs
 
--- src/lib.rt:224:1
 returns-4 : tie.Need-returns-4
 returns-4 c = search (needs, laws)
 

@@ -7,19 +7,15 @@ use Rattle.presented.proofs.first_set.Lts as lts
 use Rattle.presented.proofs.blocks_cn.Reads as blocks-cn-reads
 use Rattle.presented.proofs.names_start.Reads as names-start-reads
 
--- src/lib.rt:285:9
 blocks-cn-requires : tie.Need-blocks-cn-requires
 blocks-cn-requires c κs = search needs
 
--- src/lib.rt:287:9
 returns : tie.Need-returns
 returns c = search (needs, laws)
 
--- src/lib.rt:289:5
 names-start-requires : tie.Need-names-start-requires
 names-start-requires c κs = search needs
 
--- src/lib.rt:281:1
 returns-2 : tie.Need-returns-2
 returns-2 c = search (needs, laws)
 
