@@ -4,7 +4,7 @@ use mathlib.Core.Path.{_≡_, sym, ap, fun-ext, _∙_}
 use mathlib.Core.Bool.{Bool, true, false, or-false, or-true}
 use mathlib.Core.List.{List, [], _∷_}
 use native.Mathlib.Omega.{arith}
-use lib.ListN.{length, getD, take, drop}
+use lib.ListN.{length, getD, take, drop, length-drop}
 use lib.Dec.{eqb}
 use borrow.Author.Tests.{eq-eqb, ne-eqb, eqb-true}
 use Rattle.octets.proofs.Cases.{by-cases, clash}
@@ -157,3 +157,17 @@ module _ (rest : List ℕ) (n : ℕ) (at : n ≡ length (before (stops at-sign) 
       ∙ before-end host
       ∙ ap (before authorityEnd) (f ∙ part-after (stops at-sign) rest n at)
       ∙ sym (rw (has-at rest (rw (← at) l) (rw (← at) a)) (past-at rest (rw (← at) l) (rw (← at) a)))
+
+-- ---- its length
+
+after-within : (p : ℕ → Bool) (s : List ℕ) → length (after p s) ≤ length s
+after-within p s = omega (arith, ap length (sym (cut.drop-after p s)), length-drop (length (before p s) + 1) s)
+
+-- what is left of an authority is no longer than what it stands in
+pub host-within : (rest : List ℕ) → length (hostPort rest) ≤ length rest
+unfolding hostPort
+host-within rest =
+    let short = cut.before-within authorityEnd rest in
+    by-cases (any (is at-sign) (before authorityEnd rest))
+    (λ e. rw e (omega (arith, after-within (is at-sign) (before authorityEnd rest))))
+    (λ e. rw e short)

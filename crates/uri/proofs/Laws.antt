@@ -37,6 +37,7 @@ pub ruleset laws = (
   Uri.uri-no-slashes,
   Uri.uri-hosted,
   Uri.match-short,
+  Uri.match-less,
   Uri.match-no-colon,
   Uri.match-other-scheme,
   Uri.match-no-slashes,

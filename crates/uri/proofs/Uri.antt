@@ -1,15 +1,16 @@
 -- URI-IDs by the place of the first colon, and what matches a reference whose scheme and domain are good.
-use Prim.Native.Nat.{ℕ, _+_, _<_, _≤_}
+use Prim.Native.Nat.{ℕ, _+_, _-_, _<_, _≤_}
 use mathlib.Core.Path.{_≡_, refl, sym, ap, _∙_}
 use mathlib.Core.Bool.{Bool, true, false, not, _&&_, and-true, and-false, and-assoc, and-comm}
 use mathlib.Core.List.{List, [], _∷_}
 use native.Mathlib.Omega.{arith}
-use lib.ListN.{length, getD, take, drop}
+use lib.ListN.{length, getD, take, drop, length-drop}
 use lib.Seq.{length-take-le}
 use lib.Dec.{eqb, ltb}
 use borrow.Author.Tests.{eq-eqb, ne-eqb, eqb-true, ltb-true, ltb-false, not-true, not-false}
 use Rattle.octets.proofs.Cases.{by-cases, and-left, and-right, fails, clash, eqb-swap}
 use Rattle.octets.proofs.Compare.{text-length}
+use Rattle.octets.proofs.Cut.{drop-after}
 use Rattle.octets.proofs.Place.{part-before, part-after, none-after, passes-at, before-at}
 use Rattle.rules.specs.Bytes.{all, begins, before, after}
 use Rattle.rules.specs.Names.{is, colon, slash, digit, sameText, domain, scheme, schemeOf, authorityOf, hostAndPort, hostOf, portOf, uriId, uriMatches}
@@ -17,7 +18,8 @@ use Rattle.names.proofs.Free.{scheme-no-colon}
 use Rattle.names.proofs.Labels.{same-domain}
 use Rattle.names.proofs.Folded.{same-schemes}
 use Rattle.uri.specs.Parts.{hostPort, hosted, hostMatches}
-use Rattle.uri.proofs.Host.{is-domain}
+use Rattle.uri.proofs.Authority.{host-within}
+use Rattle.uri.proofs.Host.{host-short, is-domain}
 
 -- the two bytes
 abbrev slashes : List ℕ
@@ -148,6 +150,19 @@ module _ (a d s : List ℕ) where
   -- too short
   pub match-short : length s ≤ length a → false ≡ uriMatches a d s
   match-short h = fails _ (λ e. omega (arith, has-colon e))
+
+  -- too short for the domain too
+  pub match-less : length s - length a ≤ length d + 2 → false ≡ uriMatches a d s
+  match-less h =
+      fails _ (λ e.
+      let tail = after (is colon) s in
+      let tail-long : length tail ≡ length s - (length a + 1) = rw (place e) (ap length (sym (drop-after (is colon) s)) ∙ length-drop _ s) in
+      let two : 2 ≤ length tail =
+      by-cases (ltb (length tail) 2) (λ k. clash (is-slashed e) (sym (slashed-short tail (ltb-true _ 2 k)))) (λ k. ltb-false _ 2 k) in
+      let host : length d ≤ length (hostPort (drop 2 tail)) =
+      by-cases (ltb (length (hostPort (drop 2 tail))) (length d))
+      (λ k. clash (is-host e) (sym (host-short d (hostPort (drop 2 tail)) (ltb-true _ (length d) k)))) (λ k. ltb-false _ (length d) k) in
+      omega (arith, host-within (drop 2 tail), length-drop 2 tail, has-colon e))
 
   -- no colon there
   pub match-no-colon : (getD s (length a) 0 ≡ 0x3A → ⊥) → false ≡ uriMatches a d s

@@ -133,7 +133,7 @@ fn host_matches(domain: &[u8], h: &[u8]) -> bool
 }
 
 // "Service or scheme and domain must both match, without case": of a reference whose scheme and domain are good. The lengths leave one
-// place for the colon.
+// place for the colon, and a text with no room for the domain past "://" is left before its host is sought.
 pub fn scheme_matches(scheme: &[u8], domain: &[u8], text: &[u8]) -> bool
     requires { ⌜ rules.scheme (now scheme) ≡ true ⌝ }
     requires { ⌜ rules.domain (now domain) ≡ true ⌝ }
@@ -141,6 +141,9 @@ pub fn scheme_matches(scheme: &[u8], domain: &[u8], text: &[u8]) -> bool
 {
     let n = scheme.len();
     if text.len() <= n {
+        return false;
+    }
+    if text.len() - n <= domain.len() + 2 {
         return false;
     }
     if text[n] != 0x3A {
