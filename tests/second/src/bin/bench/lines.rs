@@ -36,8 +36,8 @@ pub fn inputs(case: &Case) -> Inputs<'_> {
     }
 }
 
-/// One verdict of the second program, with all six numbers.
-fn plain(case: &Case) -> Verdict {
+/// One verdict by one of the two Rust programs, with all six numbers.
+fn judged(judge: impl Fn(&[u8], &[u8], &[u8], &[u8], &[u8]) -> Verdict, case: &Case) -> Verdict {
     let Inputs {
         san,
         subject,
@@ -45,25 +45,17 @@ fn plain(case: &Case) -> Verdict {
         lengths,
         references,
     } = black_box(inputs(case));
-    black_box(judge_from_c(san, subject, constraints, lengths, references)).verdict
+    black_box(judge(san, subject, constraints, lengths, references))
 }
 
-/// One verdict written for speed, with all six numbers.
+/// By the second program.
+fn plain(case: &Case) -> Verdict {
+    judged(|s, n, c, l, r| judge_from_c(s, n, c, l, r).verdict, case)
+}
+
+/// By the one that is written for speed.
 fn best(case: &Case) -> Verdict {
-    let Inputs {
-        san,
-        subject,
-        constraints,
-        lengths,
-        references,
-    } = black_box(inputs(case));
-    black_box(verdict_from_c(
-        san,
-        subject,
-        constraints,
-        lengths,
-        references,
-    ))
+    judged(verdict_from_c, case)
 }
 
 /// Measures the verdict of one case, which must be the same in all three.
