@@ -93,7 +93,7 @@ static void print_entry(const struct names *names, uint32_t index)
 
 static void print_verdict(const struct beckethand_verdict *v, const struct names *names, STACK_OF(X509) *chain, const struct meant *meant)
 {
-    printf("%s", beckethand_answer_text(v->answer));
+    printf("%s", v->answer == BECKETHAND_MATCH ? "match" : beckethand_answer_text(v->answer));
     if (v->answer == BECKETHAND_MATCH) {
         int by_cn = meant->records[v->reference * BECKETHAND_RECORD_SIZE + BECKETHAND_AT_KIND] == BECKETHAND_CN;
         printf(": %s is %s %u, ", meant->references[v->reference], by_cn ? "the CN in RDN" : "SAN entry", v->presented);
