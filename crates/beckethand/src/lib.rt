@@ -17,6 +17,14 @@ ghost use Rattle.rules.specs.Writing.{request, sanWriter, recordWriter, written
 ghost use Rattle.reading.specs.Calls.{inputs, outcomeOn, verdictOn, witnessPartOn, listingOn, tableOn, openingOn, viewOn};
 ghost use Rattle.verdict.specs.Judging.{Small, SmallNumbers, SmallPlace};
 
+// The version of these calls: major * 10000 + minor * 100 + patch. BECKETHAND_VERSION of include/beckethand.h is the same number.
+#[no_mangle]
+pub extern "C" fn beckethand_version() -> u32
+    ensures { λ r. ⌜ r ≡ 10000 ⌝ }
+{
+    10000
+}
+
 // A number that fits.
 fn narrow(n: usize) -> u32
     requires { ⌜ n ≤ sanLimit ⌝ }
