@@ -49,6 +49,8 @@
  *                                     odd count of bytes: then correct the call
  *   8  table too short                only from beckethand_list: lend as many rows as its count says
  *
+ * The answers of the writers, 21 to 24, are said at THE WRITERS. For logs, beckethand_answer_text has each answer's meaning as a text.
+ *
  * The first of these that applies is given: 7, then 6, 3, 4, 5, 2, and else 0 or 1. So an empty subject (length 0) is answered with
  * 4 where nothing is too long, the records are good and the san is absent or readable; else with 7, 6 or 3.
  *
@@ -99,6 +101,14 @@
 #ifdef __cplusplus
 extern "C" {
 #endif
+
+/* The version of this header: major * 10000 + minor * 100 + patch, here 1.0.0, a number that #if can compare. The first number changes
+ * where a program that calls it has to be changed, the second where calls or answers are added or changed, the third otherwise. */
+#define BECKETHAND_VERSION 10000
+
+/* beckethand_version gives the version of the archive that is linked. If it is not BECKETHAND_VERSION, then the program was compiled with
+ * the header of another archive. */
+uint32_t beckethand_version(void);
 
 /* the answers of a verdict */
 #define BECKETHAND_MATCH 0
@@ -306,6 +316,42 @@ struct beckethand_written beckethand_write_san(uint8_t *buffer, size_t buffer_le
 struct beckethand_written beckethand_write_records(uint8_t *buffer, size_t buffer_len, const uint8_t *texts, size_t texts_len,
                                                    const size_t *lengths, size_t lengths_count, const uint8_t *kinds,
                                                    size_t kinds_count);
+
+/* beckethand_answer_text says in a few words, for logs, what an answer of any call means, or that no call gives such a number. The text
+ * is constant, and is not to be freed. */
+static inline const char *beckethand_answer_text(uint32_t answer)
+{
+    switch (answer) {
+    case BECKETHAND_MATCH: /* and BECKETHAND_ACCEPTED, which is the same number */
+        return "match, accepted or written";
+    case BECKETHAND_MISMATCH:
+        return "mismatch: the server is another one";
+    case BECKETHAND_CONSTRAINTS_BROKEN:
+        return "constraints broken: an SRVName or a dNSName breaks the constraints of a CA";
+    case BECKETHAND_SAN_UNREADABLE:
+        return "SAN unreadable";
+    case BECKETHAND_SUBJECT_UNREADABLE:
+        return "subject unreadable";
+    case BECKETHAND_CONSTRAINTS_UNREADABLE:
+        return "constraints unreadable";
+    case BECKETHAND_REFERENCES_UNREADABLE:
+        return "reference records unreadable";
+    case BECKETHAND_INPUT_TOO_LONG:
+        return "an input is too long, or there are more than 8 lengths, or they do not fit the constraints";
+    case BECKETHAND_TABLE_TOO_SHORT:
+        return "table too short";
+    case BECKETHAND_EMPTY_LIST:
+        return "empty list";
+    case BECKETHAND_NOT_A_NAME:
+        return "not a name, or the parts of the list disagree";
+    case BECKETHAND_RESULT_TOO_LONG:
+        return "result too long";
+    case BECKETHAND_BUFFER_TOO_SHORT:
+        return "buffer too short";
+    default:
+        return "no answer of beckethand";
+    }
+}
 
 #ifdef __cplusplus
 }

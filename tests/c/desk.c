@@ -769,6 +769,7 @@ int main(void) {
     wildcards();
     free_names();
     writers();
+    texts();
     printf("C: %d cases, %d failures\n", cases, failures);
     return failures != 0;
 }

@@ -25,4 +25,7 @@ struct bytes guarded(struct bytes b);
 /* request 4/13 */
 void writers(void);
 
+/* the version, and what each answer means in words */
+void texts(void);
+
 #endif
