@@ -102,8 +102,8 @@
 extern "C" {
 #endif
 
-/* The version of this header: major * 10000 + minor * 100 + patch, here 1.0.0, a number that #if can compare. The first number changes
- * where a program that calls it has to be changed, the second where calls or answers are added or changed, the third otherwise. */
+/* The version of this header: major * 10000 + minor * 100 + patch, so 10000 is 1.0.0; #if can compare it. The first number changes where
+ * a program that calls it has to be changed, the second where calls or answers are added or changed, the third otherwise. */
 #define BECKETHAND_VERSION 10000
 
 /* beckethand_version gives the version of the archive that is linked. If it is not BECKETHAND_VERSION, then the program was compiled with
