@@ -134,6 +134,15 @@ static SSL_CTX *make_context(const char *roots)
     return context;
 }
 
+/* does OpenSSL take the chain? */
+static int is_verified(const SSL *ssl)
+{
+    long error = SSL_get_verify_result(ssl);
+    if (error != X509_V_OK)
+        printf("OpenSSL refuses the chain: %s\n", X509_verify_cert_error_string(error));
+    return error == X509_V_OK;
+}
+
 /* a handshake with the server at an address; the first record's domain tells it which of its certificates is wanted */
 static BIO *connect_to(SSL_CTX *context, const char *address, const struct meant *meant)
 {
@@ -147,9 +156,7 @@ static BIO *connect_to(SSL_CTX *context, const char *address, const struct meant
     if (SSL_set_tlsext_host_name(ssl, domain) && BIO_set_conn_hostname(server, address) > 0 && BIO_do_handshake(server) > 0)
         return server;
     ERR_error_string_n(ERR_peek_last_error(), reason, sizeof reason);
-    if (SSL_get_verify_result(ssl) != X509_V_OK)
-        printf("OpenSSL refuses the chain: %s\n", X509_verify_cert_error_string(SSL_get_verify_result(ssl)));
-    else
+    if (is_verified(ssl))
         printf("no connection: %s\n", reason);
     BIO_free_all(server);
     return NULL;
@@ -161,7 +168,10 @@ static int may_send(SSL *ssl, const struct meant *meant)
     STACK_OF(X509) *chain = SSL_get0_verified_chain(ssl);
     struct beckethand_verdict verdict;
     struct names names;
-    enum names_result result = names_take(&names, chain);
+    enum names_result result;
+    if (!is_verified(ssl))
+        return 0;
+    result = names_take(&names, chain);
     if (result != NAMES_TAKEN) {
         printf("%s\n", result_text(result));
         return 0;
