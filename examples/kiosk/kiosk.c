@@ -1,19 +1,23 @@
 /* kiosk.c: a client that sends a reader's card number only to a server whose certificate names the server that is meant.
  *
- *   kiosk 127.0.0.1:4433 roots.pem 29011000123456 dns:library.example srv:circulation:library.example
+ *   cc -o kiosk kiosk.c names.c $(pkg-config --cflags --libs beckethand openssl)
+ *   ./kiosk 127.0.0.1:4433 roots.pem 29011000123456 dns:library.example srv:circulation:library.example
  *
  * The references are dns:DOMAIN, srv:SERVICE:DOMAIN, uri:SCHEME:DOMAIN and cn:DOMAIN, 1 to 16 of them; one that matches is enough. It
  * says in words what it found, and then "sent" or "not sent". Exit status 0: the card number was sent; 1: it was not; 2: the arguments are
- * wrong, and nothing was tried.
+ * wrong, and nothing was tried. (A real kiosk has the number from its reader: arguments are seen by everybody on the machine.)
  *
  * Who decides: OpenSSL the path, signatures, dates and the constraints on other names than SRVNames (names_verify); beckethand the names
- * and the constraints on SRVNames and dNSNames (names_judge). The kiosk sends on BECKETHAND_MATCH and on nothing else.
+ * and the constraints on SRVNames and dNSNames (names_judge, which adds what OpenSSL misses of CNs and URIs). The kiosk sends on
+ * BECKETHAND_MATCH and on nothing else.
  */
 #include <openssl/err.h>
 #include <openssl/x509v3.h>
 #include <signal.h>
 #include <stdio.h>
 #include <string.h>
+#include <sys/socket.h>
+#include <sys/time.h>
 
 #include "names.h"
 
@@ -91,16 +95,30 @@ static void print_entry(const struct names *names, uint32_t index)
     GENERAL_NAME_free(name);
 }
 
+/* the pair that matched */
+static void print_pair(const struct beckethand_verdict *v, const struct names *names, const struct meant *meant)
+{
+    int by_cn = meant->records[v->reference * BECKETHAND_RECORD_SIZE + BECKETHAND_AT_KIND] == BECKETHAND_CN;
+    printf(": %s is %s %u, ", meant->references[v->reference], by_cn ? "the CN in RDN" : "SAN entry", v->presented);
+    print_text((by_cn ? names->subject : names->san) + v->text_start, v->text_length);
+}
+
 static void print_verdict(const struct beckethand_verdict *v, const struct names *names, STACK_OF(X509) *chain, const struct meant *meant)
 {
-    printf("%s", v->answer == BECKETHAND_MATCH ? "match" : beckethand_answer_text(v->answer));
     if (v->answer == BECKETHAND_MATCH) {
-        int by_cn = meant->records[v->reference * BECKETHAND_RECORD_SIZE + BECKETHAND_AT_KIND] == BECKETHAND_CN;
-        printf(": %s is %s %u, ", meant->references[v->reference], by_cn ? "the CN in RDN" : "SAN entry", v->presented);
-        print_text((by_cn ? names->subject : names->san) + v->text_start, v->text_length);
-    } else if (v->answer == BECKETHAND_CONSTRAINTS_BROKEN) {
-        printf(": SAN entry %u, ", v->presented);
-        print_entry(names, v->presented);
+        printf("match");
+        print_pair(v, names, meant);
+    } else if (v->answer == BECKETHAND_CONSTRAINTS_BROKEN && v->text_length > 0) {
+        printf("constraints broken by what matched");
+        print_pair(v, names, meant);
+    } else {
+        printf("%s", beckethand_answer_text(v->answer));
+        if (v->answer == BECKETHAND_CONSTRAINTS_BROKEN) {
+            printf(": SAN entry %u, ", v->presented);
+            print_entry(names, v->presented);
+        }
+    }
+    if (v->answer == BECKETHAND_CONSTRAINTS_BROKEN) {
         printf(", against CA %u, ", v->issuer);
         X509_NAME_print_ex_fp(stdout, X509_get_subject_name(sk_X509_value(chain, (int)v->issuer + 1)), 0, XN_FLAG_RFC2253);
     }
@@ -182,25 +200,38 @@ static int may_send(SSL *ssl, const struct meant *meant)
     return verdict.answer == BECKETHAND_MATCH;
 }
 
+/* a server that says nothing for so many seconds is left */
+#define PATIENCE 10
+
+/* says that we have sent all, and waits until the server has read it */
+static void close_down(BIO *server, SSL *ssl)
+{
+    const struct timeval limit = {PATIENCE, 0};
+    setsockopt(BIO_get_fd(server, NULL), SOL_SOCKET, SO_RCVTIMEO, &limit, sizeof limit);
+    if (SSL_shutdown(ssl) == 0)
+        SSL_shutdown(ssl);
+}
+
 /* one visit to a server: was the card sent? */
 static int visit(SSL_CTX *context, const char *address, const char *card, const struct meant *meant)
 {
     BIO *server = connect_to(context, address, meant);
     SSL *ssl = NULL;
-    int sent;
+    int allowed, sent;
     if (server == NULL)
         return 0;
     BIO_get_ssl(server, &ssl);
-    sent = may_send(ssl, meant) && BIO_puts(server, card) == (int)strlen(card);
-    if (SSL_shutdown(ssl) == 0) /* ours is sent: wait for theirs, so that the server has read all */
-        SSL_shutdown(ssl);
+    allowed = may_send(ssl, meant);
+    sent = allowed && BIO_puts(server, card) == (int)strlen(card);
+    if (sent == allowed) /* else the connection is broken */
+        close_down(server, ssl);
     BIO_free_all(server);
     return sent;
 }
 
 int main(int argc, char **argv)
 {
-    struct meant meant = {argv + 4, argc > 4 ? (size_t)argc - 4 : 0, {0}};
+    struct meant meant = {argc > 4 ? argv + 4 : argv, argc > 4 ? (size_t)argc - 4 : 0, {0}};
     SSL_CTX *context;
     int sent;
     if (meant.count < 1 || meant.count > MOST_REFERENCES || *argv[3] == 0 || strspn(argv[3], "0123456789") != strlen(argv[3])) {

@@ -7,7 +7,6 @@ int fragment(SSL_CTX *context, SSL *ssl, const uint8_t *records, size_t records_
 
 int fragment(SSL_CTX *context, SSL *ssl, const uint8_t *records, size_t records_len)
 {
-    int send_card = 0;
 #include "fourth.c"
     return send_card;
 }

@@ -1,10 +1,10 @@
-/* taken.c: what names_take takes of chains that OpenSSL's own verification would not let through, and names_judge says of it.
+/* taken.c: what names_take takes of chains that OpenSSL's own verification would not let through, and what names_judge says of it.
  *
- *   taken CHAIN REFERENCE-DOMAIN
+ *   taken CHAIN KIND SERVICE DOMAIN
  *
- * CHAIN is a file of certificates, the server's first. No signature, date or constraint is looked at. It writes the result of names_take;
- * if the names were taken, then the lengths of the SAN, the subject and each CA's constraints, and the answer with a DNS record of the
- * domain.
+ * CHAIN is a file of certificates, the server's first. No signature, date or constraint is looked at. KIND is a record's, as a number. It
+ * writes the result of names_take; if the names were taken, then the lengths of the SAN, the subject and each CA's constraints, the answer
+ * with that one record, and the issuer's index.
  */
 #include <openssl/pem.h>
 #include <stdio.h>
@@ -27,10 +27,11 @@ static STACK_OF(X509) *load(const char *path)
 
 static void print_names(const struct names *names, const uint8_t *record)
 {
+    const struct beckethand_verdict verdict = names_judge(names, record, BECKETHAND_RECORD_SIZE);
     printf("SAN %zu, subject %zu, constraints", names->san_len, names->subject_len);
     for (size_t i = 0; i + 1 < names->lengths_len; i += 2)
         printf(" %d", names->lengths[i] << 8 | names->lengths[i + 1]);
-    printf(", answer %u\n", names_judge(names, record, BECKETHAND_RECORD_SIZE).answer);
+    printf(", answer %u, issuer %u\n", verdict.answer, verdict.issuer);
 }
 
 int main(int argc, char **argv)
@@ -40,7 +41,7 @@ int main(int argc, char **argv)
     struct names names;
     STACK_OF(X509) *chain;
     enum names_result result;
-    if (argc != 3 || names_record(record, BECKETHAND_DNS, "", argv[2]) != BECKETHAND_ACCEPTED)
+    if (argc != 5 || names_record(record, (uint8_t)atoi(argv[2]), argv[3], argv[4]) != BECKETHAND_ACCEPTED)
         return 2;
     chain = load(argv[1]);
     result = names_take(&names, chain);
