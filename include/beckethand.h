@@ -86,7 +86,8 @@
  * it if it is excluded, where the subtree's labels are its last labels, in either case of letters; an empty subtree holds every name. The
  * star of a wildcard is a label like others here: "*.a.b" lies in "a.b" and in "b", and not in "x.a.b". But it could stand for x, so it
  * also breaks an excluded "x.a.b", or any other excluded subtree of one label and then "a.b"; it does not break an excluded "y.x.a.b".
- * The subject's CN and URIs are not constrained. Subtrees of other forms are read and passed over.
+ * The subject's CN and URIs are not constrained; with records of these kinds the caller holds what they match against the constraints, as
+ * names_judge of examples/kiosk does. Subtrees of other forms are read and passed over.
  *
  * ADDRESSES. A domain whose last label is all digits, as in "10.4.0.7", is none: such a dNSName, SRVName, URI or CN matches nothing,
  * and such an SRVName or dNSName breaks any constraints of its form (2). Other labels are not judged so: "4.example" and "a.7b" are

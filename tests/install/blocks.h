@@ -1,4 +1,4 @@
-/* The three C blocks of the README, as functions. */
+/* The first three C blocks of the README, as functions; tests/kiosk builds the fourth. */
 #ifndef BLOCKS_H
 #define BLOCKS_H
 
