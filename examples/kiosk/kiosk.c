@@ -210,6 +210,7 @@ static void close_down(BIO *server, SSL *ssl)
     setsockopt(BIO_get_fd(server, NULL), SOL_SOCKET, SO_RCVTIMEO, &limit, sizeof limit);
     if (SSL_shutdown(ssl) == 0)
         SSL_shutdown(ssl);
+    SSL_set_shutdown(ssl, SSL_SENT_SHUTDOWN | SSL_RECEIVED_SHUTDOWN); /* else BIO_free_all waits once more */
 }
 
 /* one visit to a server: was the card sent? */
