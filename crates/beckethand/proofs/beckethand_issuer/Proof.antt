@@ -2,22 +2,11 @@ use borrow.Author.Needs.{needs}
 use Rattle.beckethand.proofs.Laws.{laws}
 use Rattle.beckethand.proofs.beckethand_issuer.Statement.{statement}
 use Rattle.beckethand.proofs.beckethand_issuer.Tie as tie
-use Rattle.beckethand.proofs.beckethand_issuer.Reads as reads
-use Rattle.beckethand.proofs.beckethand_issuer.Lts as lts
-use Rattle.beckethand.proofs.narrow.Reads as narrow-reads
-use Rattle.beckethand.proofs.numbers_by.Reads as numbers-by-reads
-
--- src/lib.rt:196:9
-numbers-by-requires : tie.Need-numbers-by-requires
-numbers-by-requires c κs = search needs
-
--- src/lib.rt:197:5
-narrow-requires : tie.Need-narrow-requires
-narrow-requires c κs = search needs
-
--- src/lib.rt:186:1
-returns : tie.Need-returns
-returns c = search (needs, laws)
 
 pub beckethand-issuer-spec : {M : Type 1} → statement M
-beckethand-issuer-spec = tie.close (tie.spec numbers-by-requires narrow-requires returns)
+beckethand-issuer-spec =
+    tie.close
+    (tie.spec
+    (λ c κs. search needs)
+    (λ c κs. search needs)
+    (λ c. search (needs, laws)))

@@ -2,21 +2,12 @@ use borrow.Author.Needs.{needs}
 use Rattle.presented.proofs.Laws.{laws}
 use Rattle.presented.proofs.header_at.Statement.{statement}
 use Rattle.presented.proofs.header_at.Tie as tie
-use Rattle.presented.proofs.header_at.Reads as reads
-use Rattle.presented.proofs.header_at.Lts as lts
-use Rattle.der.proofs.read_element.Reads as read-element-reads
-
-read-element-requires : tie.Need-read-element-requires
-read-element-requires c κs = search needs
-
-enum-known-e : tie.Need-enum-known-e
-enum-known-e c = search needs
-
-returns : tie.Need-returns
-returns c = search (needs, laws)
-
-returns-2 : tie.Need-returns-2
-returns-2 c = search (needs, laws)
 
 pub header-at-spec : {M : Type 1} → statement M
-header-at-spec = tie.close (tie.spec read-element-requires enum-known-e returns returns-2)
+header-at-spec =
+    tie.close
+    (tie.spec
+    (λ c κs. search needs)
+    (λ c. search needs)
+    (λ c. search (needs, laws))
+    (λ c. search (needs, laws)))

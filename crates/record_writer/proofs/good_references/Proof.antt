@@ -10,10 +10,6 @@ use borrow.Author.Needs.{needs}
 use Rattle.record_writer.proofs.Laws.{laws}
 use Rattle.record_writer.proofs.good_references.Statement.{statement}
 use Rattle.record_writer.proofs.good_references.Tie as tie
-use Rattle.record_writer.proofs.good_references.Reads as reads
-use Rattle.record_writer.proofs.good_references.Lts as lts
-use Rattle.records.proofs.good_reference.Reads as good-reference-reads
-use Rattle.octets.proofs.sums_to.Reads as sums-to-reads
 
 abbrev Inv-loop : tie.InvT-loop
 Inv-loop texts lengths kinds whole at₀ i₀ at i = (i ≤ length kinds) × (length lengths ≡ 2 * length kinds) × EndsAt lengths (length texts) (2 * i) at × Judging recordWriter (request kinds lengths texts) (referencesFrom kinds lengths texts i at)
@@ -21,19 +17,6 @@ Inv-loop texts lengths kinds whole at₀ i₀ at i = (i ≤ length kinds) × (le
 abbrev μ-loop : tie.MeasureT-loop
 μ-loop texts lengths kinds whole at₀ i₀ at i = length kinds - i
 
--- src/lib.rt:47:9
-returns : tie.Need-returns Inv-loop μ-loop
-returns c = search (needs, laws)
-
--- src/lib.rt:50:9
-returns-2 : tie.Need-returns-2 Inv-loop μ-loop
-returns-2 c = search (needs, laws)
-
--- src/lib.rt:52:9
-sums-to-requires : tie.Need-sums-to-requires Inv-loop μ-loop
-sums-to-requires c κs = search (needs, laws)
-
--- src/lib.rt:54:9
 returns-3 : tie.Need-returns-3 Inv-loop μ-loop
 returns-3 c =
     let a = c .before .before .before .before .before .before .before .args in
@@ -44,7 +27,6 @@ returns-3 c =
     let sum = c .before .sums-to .ensures in
     texts-other-sum k n t many _ sum (c .if3 .taken)
 
--- src/lib.rt:58:5
 loop-holds : tie.Need-loop-holds Inv-loop μ-loop
 loop-holds c =
     let a = c .before .before .before .before .before .before .before .args in
@@ -55,125 +37,91 @@ loop-holds c =
     let sum = c .before .sums-to .ensures in
     (omega arith, many, texts-begin k n t many _ sum (c .if3 .left), references-begin k n t many _ sum (c .if3 .left))
 
--- src/lib.rt:59:35
 mul-middle : tie.Need-mul-middle Inv-loop μ-loop
 mul-middle c =
     let v = c .before .loop .inv in
     omega (arith, v .1)
 
--- src/lib.rt:59:27
 mul-middle-2 : tie.Need-mul-middle-2 Inv-loop μ-loop
 mul-middle-2 c =
     let v = c .before .loop .inv in
     omega (arith, v .1)
 
--- src/lib.rt:59:27
 shared-slice-read-middle : tie.Need-shared-slice-read-middle Inv-loop μ-loop
 shared-slice-read-middle c =
     let v = c .before .before .loop .inv in
     omega (arith, v .1)
 
--- src/lib.rt:59:22
 add-middle : tie.Need-add-middle Inv-loop μ-loop
 add-middle c =
     let v = c .before .before .loop .inv in
     omega (arith, service-within _ _ _ _ (v .2) _ (omega arith) (v .1))
 
--- src/lib.rt:60:36
 mul-end : tie.Need-mul-end Inv-loop μ-loop
 mul-end c =
     let v = c .before .before .loop .inv in
     omega (arith, v .1)
 
--- src/lib.rt:60:36
 add-end : tie.Need-add-end Inv-loop μ-loop
 add-end c =
     let v = c .before .before .loop .inv in
     omega (arith, v .1)
 
--- src/lib.rt:60:28
 mul-end-2 : tie.Need-mul-end-2 Inv-loop μ-loop
 mul-end-2 c =
     let v = c .before .before .loop .inv in
     omega (arith, v .1)
 
--- src/lib.rt:60:28
 shared-slice-read-end : tie.Need-shared-slice-read-end Inv-loop μ-loop
 shared-slice-read-end c =
     let v = c .before .before .before .loop .inv in
     omega (arith, v .1)
 
--- src/lib.rt:60:19
 add-end-2 : tie.Need-add-end-2 Inv-loop μ-loop
 add-end-2 c =
     let v = c .before .before .before .loop .inv in
     omega (arith, service-within _ _ _ _ (v .2) _ (omega arith) (v .1), domain-within _ _ _ _ (v .2) _ (omega arith) (v .1) _ refl)
 
--- src/lib.rt:61:35
-shared-slice-read-good-reference : tie.Need-shared-slice-read-good-reference Inv-loop μ-loop
-shared-slice-read-good-reference c = search (needs, laws)
-
--- src/lib.rt:61:45
 sub-good-reference : tie.Need-sub-good-reference Inv-loop μ-loop
 sub-good-reference c =
     let v = c .before .before .before .before .loop .inv in
     omega (arith, service-within _ _ _ _ (v .2) _ (omega arith) (v .1))
 
--- src/lib.rt:61:45
 part-good-reference-start : tie.Need-part-good-reference-start Inv-loop μ-loop
 part-good-reference-start c =
     let v = c .before .before .before .before .loop .inv in
     omega (arith, service-within _ _ _ _ (v .2) _ (omega arith) (v .1))
 
--- src/lib.rt:61:45
 part-good-reference-end : tie.Need-part-good-reference-end Inv-loop μ-loop
 part-good-reference-end c =
     let v = c .before .before .before .before .loop .inv in
     omega (arith, service-within _ _ _ _ (v .2) _ (omega arith) (v .1))
 
--- src/lib.rt:61:65
 sub-good-reference-2 : tie.Need-sub-good-reference-2 Inv-loop μ-loop
 sub-good-reference-2 c =
     let v = c .before .before .before .before .before .loop .inv in
     omega (arith, service-within _ _ _ _ (v .2) _ (omega arith) (v .1), domain-within _ _ _ _ (v .2) _ (omega arith) (v .1) _ refl)
 
--- src/lib.rt:61:65
 part-good-reference-start-2 : tie.Need-part-good-reference-start-2 Inv-loop μ-loop
 part-good-reference-start-2 c =
     let v = c .before .before .before .before .before .loop .inv in
     omega (arith, service-within _ _ _ _ (v .2) _ (omega arith) (v .1), domain-within _ _ _ _ (v .2) _ (omega arith) (v .1) _ refl)
 
--- src/lib.rt:61:65
 part-good-reference-end-2 : tie.Need-part-good-reference-end-2 Inv-loop μ-loop
 part-good-reference-end-2 c =
     let v = c .before .before .before .before .before .loop .inv in
     omega (arith, service-within _ _ _ _ (v .2) _ (omega arith) (v .1), domain-within _ _ _ _ (v .2) _ (omega arith) (v .1) _ refl)
 
--- src/lib.rt:61:13
-good-reference-requires : tie.Need-good-reference-requires Inv-loop μ-loop
-good-reference-requires c κs = search (needs, laws)
-
--- src/lib.rt:63:13
 returns-4 : tie.Need-returns-4 Inv-loop μ-loop
 returns-4 c =
     let v = c .before .before .before .before .before .before .before .before .loop .inv in
     reference-bad _ _ _ _ _ (v .3) (omega arith) (v .1) _ refl _ refl _ (c .before .good-reference .ensures) (c .if4 .taken)
 
--- src/lib.rt:66:9
-add-i : tie.Need-add-i Inv-loop μ-loop
-add-i c = search (needs, laws)
-
--- src/lib.rt:58:5
-loop-less : tie.Need-loop-less Inv-loop μ-loop
-loop-less c = search (needs, laws)
-
--- src/lib.rt:58:5
 loop-again : tie.Need-loop-again Inv-loop μ-loop
 loop-again c =
     let v = c .before .before .before .before .before .before .before .before .loop .inv in
     (omega arith, v .1, texts-next _ _ _ _ (v .2) _ (omega arith) (v .1) _ refl _ refl, reference-next _ _ _ _ _ (v .3) (omega arith) (v .1) _ refl _ refl _ (c .before .good-reference .ensures) (c .if4 .left))
 
--- src/lib.rt:43:1
 returns-5 : tie.Need-returns-5 Inv-loop μ-loop
 returns-5 c =
     reference-end _ _ _ _ _ (c .before .loop .inv .3) (omega arith)
@@ -184,9 +132,9 @@ good-references-spec =
     (tie.spec
     Inv-loop
     μ-loop
-    returns
-    returns-2
-    sums-to-requires
+    (λ c. search (needs, laws))
+    (λ c. search (needs, laws))
+    (λ c κs. search (needs, laws))
     returns-3
     loop-holds
     mul-middle
@@ -198,16 +146,16 @@ good-references-spec =
     mul-end-2
     shared-slice-read-end
     add-end-2
-    shared-slice-read-good-reference
+    (λ c. search (needs, laws))
     sub-good-reference
     part-good-reference-start
     part-good-reference-end
     sub-good-reference-2
     part-good-reference-start-2
     part-good-reference-end-2
-    good-reference-requires
+    (λ c κs. search (needs, laws))
     returns-4
-    add-i
-    loop-less
+    (λ c. search (needs, laws))
+    (λ c. search (needs, laws))
     loop-again
     returns-5)

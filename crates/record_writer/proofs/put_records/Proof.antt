@@ -8,10 +8,6 @@ use borrow.Author.Needs.{needs}
 use Rattle.record_writer.proofs.Laws.{laws}
 use Rattle.record_writer.proofs.put_records.Statement.{statement}
 use Rattle.record_writer.proofs.put_records.Tie as tie
-use Rattle.record_writer.proofs.put_records.Reads as reads
-use Rattle.record_writer.proofs.put_records.Lts as lts
-use Rattle.output.proofs.put_text.Reads as put-text-reads
-use Rattle.record_writer.proofs.record_bytes.Reads as record-bytes-reads
 
 abbrev Inv-loop : tie.InvT-loop
 Inv-loop buffer₀ texts lengths kinds out₀ at₀ i₀ buffer out at i = (length buffer ≡ length buffer₀) × (i ≤ length kinds) × (length lengths ≡ 2 * length kinds) × Putting kinds lengths texts buffer₀ buffer out at i
@@ -19,140 +15,100 @@ Inv-loop buffer₀ texts lengths kinds out₀ at₀ i₀ buffer out at i = (leng
 abbrev μ-loop : tie.MeasureT-loop
 μ-loop buffer₀ texts lengths kinds out₀ at₀ i₀ buffer out at i = length kinds - i
 
--- src/lib.rt:89:5
 loop-holds : tie.Need-loop-holds Inv-loop μ-loop
 loop-holds c =
     (refl, omega arith, many _ _ _ _ (c .before .before .before .before .pre), putting-begin _ _ _ _ (c .before .before .before .before .pre))
 
--- src/lib.rt:90:35
 mul-middle : tie.Need-mul-middle Inv-loop μ-loop
 mul-middle c =
     let v = c .before .loop .inv in
     omega (arith, v .2)
 
--- src/lib.rt:90:27
 mul-middle-2 : tie.Need-mul-middle-2 Inv-loop μ-loop
 mul-middle-2 c =
     let v = c .before .loop .inv in
     omega (arith, v .2)
 
--- src/lib.rt:90:27
 shared-slice-read-middle : tie.Need-shared-slice-read-middle Inv-loop μ-loop
 shared-slice-read-middle c =
     let v = c .before .before .loop .inv in
     omega (arith, v .2)
 
--- src/lib.rt:90:22
 add-middle : tie.Need-add-middle Inv-loop μ-loop
 add-middle c =
     let v = c .before .before .loop .inv in
     omega (arith, service-within _ _ _ _ (v .3 .ends) _ (omega arith) (v .2))
 
--- src/lib.rt:91:36
 mul-end : tie.Need-mul-end Inv-loop μ-loop
 mul-end c =
     let v = c .before .before .loop .inv in
     omega (arith, v .2)
 
--- src/lib.rt:91:36
 add-end : tie.Need-add-end Inv-loop μ-loop
 add-end c =
     let v = c .before .before .loop .inv in
     omega (arith, v .2)
 
--- src/lib.rt:91:28
 mul-end-2 : tie.Need-mul-end-2 Inv-loop μ-loop
 mul-end-2 c =
     let v = c .before .before .loop .inv in
     omega (arith, v .2)
 
--- src/lib.rt:91:28
 shared-slice-read-end : tie.Need-shared-slice-read-end Inv-loop μ-loop
 shared-slice-read-end c =
     let v = c .before .before .before .loop .inv in
     omega (arith, v .2)
 
--- src/lib.rt:91:19
 add-end-2 : tie.Need-add-end-2 Inv-loop μ-loop
 add-end-2 c =
     let v = c .before .before .before .loop .inv in
     omega (arith, service-within _ _ _ _ (v .3 .ends) _ (omega arith) (v .2), domain-within _ _ _ _ (v .3 .ends) _ (omega arith) (v .2) _ refl)
 
--- src/lib.rt:92:34
-shared-slice-read-record-bytes : tie.Need-shared-slice-read-record-bytes Inv-loop μ-loop
-shared-slice-read-record-bytes c = search (needs, laws)
-
--- src/lib.rt:92:44
 sub-record-bytes : tie.Need-sub-record-bytes Inv-loop μ-loop
 sub-record-bytes c =
     let v = c .before .before .before .before .loop .inv in
     omega (arith, service-within _ _ _ _ (v .3 .ends) _ (omega arith) (v .2))
 
--- src/lib.rt:92:44
 part-record-bytes-start : tie.Need-part-record-bytes-start Inv-loop μ-loop
 part-record-bytes-start c =
     let v = c .before .before .before .before .loop .inv in
     omega (arith, service-within _ _ _ _ (v .3 .ends) _ (omega arith) (v .2))
 
--- src/lib.rt:92:44
 part-record-bytes-end : tie.Need-part-record-bytes-end Inv-loop μ-loop
 part-record-bytes-end c =
     let v = c .before .before .before .before .loop .inv in
     omega (arith, service-within _ _ _ _ (v .3 .ends) _ (omega arith) (v .2))
 
--- src/lib.rt:92:64
 sub-record-bytes-2 : tie.Need-sub-record-bytes-2 Inv-loop μ-loop
 sub-record-bytes-2 c =
     let v = c .before .before .before .before .before .loop .inv in
     omega (arith, service-within _ _ _ _ (v .3 .ends) _ (omega arith) (v .2), domain-within _ _ _ _ (v .3 .ends) _ (omega arith) (v .2) _ refl)
 
--- src/lib.rt:92:64
 part-record-bytes-start-2 : tie.Need-part-record-bytes-start-2 Inv-loop μ-loop
 part-record-bytes-start-2 c =
     let v = c .before .before .before .before .before .loop .inv in
     omega (arith, service-within _ _ _ _ (v .3 .ends) _ (omega arith) (v .2), domain-within _ _ _ _ (v .3 .ends) _ (omega arith) (v .2) _ refl)
 
--- src/lib.rt:92:64
 part-record-bytes-end-2 : tie.Need-part-record-bytes-end-2 Inv-loop μ-loop
 part-record-bytes-end-2 c =
     let v = c .before .before .before .before .before .loop .inv in
     omega (arith, service-within _ _ _ _ (v .3 .ends) _ (omega arith) (v .2), domain-within _ _ _ _ (v .3 .ends) _ (omega arith) (v .2) _ refl)
 
--- src/lib.rt:92:21
 record-bytes-requires : tie.Need-record-bytes-requires Inv-loop μ-loop
 record-bytes-requires c κs =
     let v = c .before .before .before .before .before .before .loop .inv in
     texts-short _ _ _ _ _ _ _ _ (v .3) (omega arith) (v .2) _ refl _ refl
 
--- src/lib.rt:93:42
-slice-aggregate-put-text : tie.Need-slice-aggregate-put-text Inv-loop μ-loop
-slice-aggregate-put-text c = search (needs, laws)
-
--- src/lib.rt:93:13
 put-text-requires : tie.Need-put-text-requires Inv-loop μ-loop
 put-text-requires c κs =
     let v = c .before .before .before .before .before .before .before .before .before .loop .inv in
     fits-record _ _ _ _ _ _ _ _ (v .3) (omega arith) (v .2) _ refl _ refl _ (c .before .before .record-bytes .ensures)
 
--- src/lib.rt:96:9
-add-i : tie.Need-add-i Inv-loop μ-loop
-add-i c = search (needs, laws)
-
--- src/lib.rt:89:5
-loop-less : tie.Need-loop-less Inv-loop μ-loop
-loop-less c = search (needs, laws)
-
--- src/lib.rt:89:5
 loop-again : tie.Need-loop-again Inv-loop μ-loop
 loop-again c =
     let v = c .before .before .before .before .before .before .before .before .before .before .before .before .loop .inv in
     (search needs, omega arith, v .2, putting-next _ _ _ _ _ _ _ _ (v .3) (omega arith) (v .2) _ refl _ refl _ (c .before .before .before .before .before .record-bytes .ensures) _ _ (c .before .before .put-text .ensures))
 
--- src/lib.rt:82:1
-same-length : tie.Need-same-length Inv-loop μ-loop
-same-length c = search (needs, laws)
-
--- src/lib.rt:82:1
 returns : tie.Need-returns Inv-loop μ-loop
 returns c =
     putting-end _ _ _ _ _ _ _ _ (c .before .loop .inv .3) (omega arith)
@@ -173,7 +129,7 @@ put-records-spec =
     mul-end-2
     shared-slice-read-end
     add-end-2
-    shared-slice-read-record-bytes
+    (λ c. search (needs, laws))
     sub-record-bytes
     part-record-bytes-start
     part-record-bytes-end
@@ -181,10 +137,10 @@ put-records-spec =
     part-record-bytes-start-2
     part-record-bytes-end-2
     record-bytes-requires
-    slice-aggregate-put-text
+    (λ c. search (needs, laws))
     put-text-requires
-    add-i
-    loop-less
+    (λ c. search (needs, laws))
+    (λ c. search (needs, laws))
     loop-again
-    same-length
+    (λ c. search (needs, laws))
     returns)

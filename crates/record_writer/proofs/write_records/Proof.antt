@@ -4,19 +4,7 @@ use Rattle.record_writer.proofs.Putting.{all-good, measured}
 use borrow.Author.Needs.{needs}
 use Rattle.record_writer.proofs.write_records.Statement.{statement}
 use Rattle.record_writer.proofs.write_records.Tie as tie
-use Rattle.record_writer.proofs.write_records.Reads as reads
-use Rattle.record_writer.proofs.write_records.Lts as lts
-use Rattle.record_writer.proofs.good_references.Reads as good-references-reads
-use Rattle.record_writer.proofs.measure.Reads as measure-reads
-use Rattle.record_writer.proofs.put_records.Reads as put-records-reads
-use Rattle.writing.proofs.fitted.Reads as fitted-reads
-use Rattle.writing.proofs.refused.Reads as refused-reads
 
--- src/lib.rt:108:9
-refused-requires : tie.Need-refused-requires
-refused-requires c κs = search needs
-
--- src/lib.rt:108:9
 returns : tie.Need-returns
 returns c =
     let a = c .before .before .before .before .before .before .args in
@@ -26,15 +14,6 @@ returns c =
     let b = a .buffer .now in
     no-kinds recordWriter (request k n t) b _ (c .before .if1 .taken) (c .refused .ensures)
 
--- src/lib.rt:110:9
-good-references-requires : tie.Need-good-references-requires
-good-references-requires c κs = search needs
-
--- src/lib.rt:112:9
-refused-requires-2 : tie.Need-refused-requires-2
-refused-requires-2 c κs = search needs
-
--- src/lib.rt:112:9
 returns-2 : tie.Need-returns-2
 returns-2 c =
     let a = c .before .before .before .before .before .before .before .before .args in
@@ -44,15 +23,6 @@ returns-2 c =
     let b = a .buffer .now in
     bad-list recordWriter (request k n t) b _ (c .before .before .before .if1 .left) _ (c .before .before .good-references .ensures) (c .before .if2 .taken) (c .refused2 .ensures)
 
--- src/lib.rt:114:41
-measure-requires : tie.Need-measure-requires
-measure-requires c κs = search needs
-
--- src/lib.rt:114:9
-fitted-requires : tie.Need-fitted-requires
-fitted-requires c κs = search needs
-
--- src/lib.rt:117:9
 returns-3 : tie.Need-returns-3
 returns-3 c =
     let a = c .before .before .before .before .before .before .before .before .before .before .args in
@@ -63,7 +33,6 @@ returns-3 c =
     let w = measured k n t _ (c .before .before .before .before .good-references .ensures) (c .before .before .before .if2 .left) _ (c .before .before .measure .ensures) _ _ (c .before .fitted .ensures) in
     no-room recordWriter (request k n t) b _ (c .before .before .before .before .before .if1 .left) _ (c .before .before .before .before .good-references .ensures) (c .before .before .before .if2 .left) w (c .if3 .taken)
 
--- src/lib.rt:119:5
 put-records-requires : tie.Need-put-records-requires
 put-records-requires c κs =
     let a = c .before .before .before .before .before .before .before .before .before .before .before .args in
@@ -75,11 +44,6 @@ put-records-requires c κs =
     let f = good-fits recordWriter (request k n t) b _ (c .before .before .before .before .before .before .if1 .left) _ (c .before .before .before .before .before .good-references .ensures) (c .before .before .before .before .if2 .left) w (c .before .if3 .left) in
     record { good = all-good k n t _ (c .before .before .before .before .before .good-references .ensures) (c .before .before .before .before .if2 .left); fits = f }
 
--- src/lib.rt:102:1
-same-length : tie.Need-same-length
-same-length c = search needs
-
--- src/lib.rt:102:1
 returns-4 : tie.Need-returns-4
 returns-4 c =
     let a = c .before .before .before .before .before .before .before .before .before .before .before .before .before .before .args in
@@ -94,14 +58,14 @@ pub write-records-spec : {M : Type 1} → statement M
 write-records-spec =
     tie.close
     (tie.spec
-    refused-requires
+    (λ c κs. search needs)
     returns
-    good-references-requires
-    refused-requires-2
+    (λ c κs. search needs)
+    (λ c κs. search needs)
     returns-2
-    measure-requires
-    fitted-requires
+    (λ c κs. search needs)
+    (λ c κs. search needs)
     returns-3
     put-records-requires
-    same-length
+    (λ c. search needs)
     returns-4)

@@ -6,21 +6,7 @@ use Rattle.san_writer.proofs.Putting.{as-many, measured, content-short,
 use borrow.Author.Needs.{needs}
 use Rattle.san_writer.proofs.write_san.Statement.{statement}
 use Rattle.san_writer.proofs.write_san.Tie as tie
-use Rattle.san_writer.proofs.write_san.Reads as reads
-use Rattle.san_writer.proofs.write_san.Lts as lts
-use Rattle.output.proofs.element_size.Reads as element-size-reads
-use Rattle.output.proofs.put_start.Reads as put-start-reads
-use Rattle.san_writer.proofs.good_names.Reads as good-names-reads
-use Rattle.san_writer.proofs.measure.Reads as measure-reads
-use Rattle.san_writer.proofs.put_names.Reads as put-names-reads
-use Rattle.writing.proofs.fitted.Reads as fitted-reads
-use Rattle.writing.proofs.refused.Reads as refused-reads
 
--- src/lib.rt:172:9
-refused-requires : tie.Need-refused-requires
-refused-requires c κs = search needs
-
--- src/lib.rt:172:9
 returns : tie.Need-returns
 returns c =
     let a = c .before .before .before .before .before .before .args in
@@ -30,15 +16,6 @@ returns c =
     let b = a .buffer .now in
     no-kinds sanWriter (request k n t) b _ (c .before .if1 .taken) (c .refused .ensures)
 
--- src/lib.rt:174:9
-good-names-requires : tie.Need-good-names-requires
-good-names-requires c κs = search needs
-
--- src/lib.rt:176:9
-refused-requires-2 : tie.Need-refused-requires-2
-refused-requires-2 c κs = search needs
-
--- src/lib.rt:176:9
 returns-2 : tie.Need-returns-2
 returns-2 c =
     let a = c .before .before .before .before .before .before .before .before .args in
@@ -48,7 +25,6 @@ returns-2 c =
     let b = a .buffer .now in
     bad-list sanWriter (request k n t) b _ (c .before .before .before .if1 .left) _ (c .before .before .good-names .ensures) (c .before .if2 .taken) (c .refused2 .ensures)
 
--- src/lib.rt:178:9
 measure-requires : tie.Need-measure-requires
 measure-requires c κs =
     let a = c .before .before .before .before .before .before .before .args in
@@ -58,16 +34,10 @@ measure-requires c κs =
     let b = a .buffer .now in
     as-many k n t _ (c .before .good-names .ensures) (c .if2 .left)
 
--- src/lib.rt:179:9
 element-size-requires : tie.Need-element-size-requires
 element-size-requires c κs =
     omega (arith, c .measure .ensures .1)
 
--- src/lib.rt:180:9
-fitted-requires : tie.Need-fitted-requires
-fitted-requires c κs = search needs
-
--- src/lib.rt:183:9
 returns-3 : tie.Need-returns-3
 returns-3 c =
     let a = c .before .before .before .before .before .before .before .before .before .before .before .args in
@@ -78,7 +48,6 @@ returns-3 c =
     let w = measured k n t _ (c .before .before .before .before .before .good-names .ensures) (c .before .before .before .before .if2 .left) _ (c .before .before .before .measure .ensures .0) _ (c .before .before .element-size .ensures .0) _ _ (c .before .fitted .ensures) in
     no-room sanWriter (request k n t) b _ (c .before .before .before .before .before .before .if1 .left) _ (c .before .before .before .before .before .good-names .ensures) (c .before .before .before .before .if2 .left) w (c .if3 .taken)
 
--- src/lib.rt:185:9
 put-start-requires : tie.Need-put-start-requires
 put-start-requires c κs =
     let a = c .before .before .before .before .before .before .before .before .before .before .before .before .args in
@@ -91,7 +60,6 @@ put-start-requires c κs =
     let s = san-begin k n t _ (c .before .before .before .before .before .before .good-names .ensures) (c .before .before .before .before .before .if2 .left) _ (c .before .before .before .before .measure .ensures .0) _ (c .before .before .before .element-size .ensures .0) _ _ (c .before .before .fitted .ensures) (c .before .if3 .left) b f in
     (omega (arith, content-short k n t _ (c .before .before .before .before .before .before .good-names .ensures) (c .before .before .before .before .before .if2 .left) _ (c .before .before .before .before .measure .ensures .0) _ (c .before .before .before .element-size .ensures .0) _ _ (c .before .before .fitted .ensures) (c .before .if3 .left)), left-first _ _ _ _ _ _ _ s)
 
--- src/lib.rt:186:5
 put-names-requires : tie.Need-put-names-requires
 put-names-requires c κs =
     let a = c .before .before .before .before .before .before .before .before .before .before .before .before .before .before .before .before .args in
@@ -105,11 +73,6 @@ put-names-requires c κs =
     let c′ = left-next _ _ _ _ _ _ _ s _ _ (c .before .before .before .put-start .ensures) in
     ready k n t _ (c .before .before .before .before .before .before .before .before .before .before .good-names .ensures) (c .before .before .before .before .before .before .before .before .before .if2 .left) _ (c .before .before .before .before .before .before .before .before .measure .ensures .0) _ (c .before .before .before .before .before .before .before .element-size .ensures .0) _ _ (c .before .before .before .before .before .before .fitted .ensures) (c .before .before .before .before .before .if3 .left) _ _ (c′ .fits)
 
--- src/lib.rt:167:1
-same-length : tie.Need-same-length
-same-length c = search needs
-
--- src/lib.rt:167:1
 returns-4 : tie.Need-returns-4
 returns-4 c =
     let a = c .before .before .before .before .before .before .before .before .before .before .before .before .before .before .before .before .before .before .before .args in
@@ -127,16 +90,16 @@ pub write-san-spec : {M : Type 1} → statement M
 write-san-spec =
     tie.close
     (tie.spec
-    refused-requires
+    (λ c κs. search needs)
     returns
-    good-names-requires
-    refused-requires-2
+    (λ c κs. search needs)
+    (λ c κs. search needs)
     returns-2
     measure-requires
     element-size-requires
-    fitted-requires
+    (λ c κs. search needs)
     returns-3
     put-start-requires
     put-names-requires
-    same-length
+    (λ c. search needs)
     returns-4)
