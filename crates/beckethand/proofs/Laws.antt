@@ -21,7 +21,7 @@ use Rattle.rules.specs.declared.Sight.the-variants.{Name, End}
 use Rattle.rules.specs.declared.View.{View}
 use Rattle.rules.specs.declared.ViewNumbers.{ViewNumbers}
 use Rattle.reading.specs.Calls.{Inputs, inputs, seenIssuers, outcomeOn, refusalOf, seenRows, openingOn}
-use Rattle.verdict.specs.Judging.{numbers-are-small, place-is-small, numbers-of-inputs, place-of-inputs}
+use Rattle.verdict.specs.Judging.{numbers-are-small, place-is-small}
 
 -- ---- the outcome, by the lengths that C hands over
 
@@ -48,32 +48,6 @@ pub with-place : (v : Verdict) (p : Place) (a b c d l k t n : ℕ)
 with-place v p a b c d l k t n ea eb ec ed el ek et en = rw (ea, eb, ec, ed, el, ek, et, en)
 
 -- ---- one number
-
-module _ (v w : Verdict) (e : v ≡ w) (n : ℕ) where
-  pub answer-of : n ≡ v .answer → n ≡ w .answer
-  answer-of f = f ∙ ap (λ (x : Verdict). x .answer) e
-
-  pub reference-of : n ≡ v .reference → n ≡ w .reference
-  reference-of f = f ∙ ap (λ (x : Verdict). x .reference) e
-
-  pub presented-of : n ≡ v .presented → n ≡ w .presented
-  presented-of f = f ∙ ap (λ (x : Verdict). x .presented) e
-
-  pub start-of : n ≡ v .start → n ≡ w .start
-  start-of f = f ∙ ap (λ (x : Verdict). x .start) e
-
-  pub length-of : n ≡ v .length → n ≡ w .length
-  length-of f = f ∙ ap (λ (x : Verdict). x .length) e
-
-  pub issuer-of : n ≡ v .issuer → n ≡ w .issuer
-  issuer-of f = f ∙ ap (λ (x : Verdict). x .issuer) e
-
-module _ (p q : Place) (e : p ≡ q) (n : ℕ) where
-  pub text-start-of : n ≡ p .start → n ≡ q .start
-  text-start-of f = f ∙ ap (λ (x : Place). x .start) e
-
-  pub text-length-of : n ≡ p .length → n ≡ q .length
-  text-length-of f = f ∙ ap (λ (x : Place). x .length) e
 
 module _ (s t : Shown) (e : s ≡ t) (n : ℕ) where
   pub record-answer-of : n ≡ s .answer → n ≡ t .answer
@@ -119,18 +93,8 @@ pub ruleset laws = (
   outcome-by,
   numbers-are-small,
   place-is-small,
-  numbers-of-inputs,
-  place-of-inputs,
   all-by,
   with-place,
-  answer-of,
-  reference-of,
-  presented-of,
-  start-of,
-  length-of,
-  issuer-of,
-  text-start-of,
-  text-length-of,
   record-answer-of,
   kind-of,
   service-of,

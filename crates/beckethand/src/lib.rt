@@ -14,7 +14,7 @@ ghost use Rattle.rules.specs.Seen.{lengthsFromC};
 ghost use Rattle.rules.specs.Verdict.{withPlace, allNumbers};
 ghost use Rattle.rules.specs.Viewer.{viewNumbers};
 ghost use Rattle.rules.specs.Writing.{request, sanWriter, recordWriter, writtenBy, bufferBy};
-ghost use Rattle.reading.specs.Calls.{inputs, outcomeOn, verdictOn, witnessPartOn, listingOn, tableOn, openingOn, viewOn};
+ghost use Rattle.reading.specs.Calls.{inputs, outcomeOn, listingOn, tableOn, openingOn, viewOn};
 ghost use Rattle.verdict.specs.Judging.{Small, SmallNumbers, SmallPlace};
 
 // The version of these calls: major * 10000 + minor * 100 + patch. BECKETHAND_VERSION of include/beckethand.h is the same number.
@@ -48,36 +48,6 @@ fn outcome_by(
     let count = l.count;
     let values = l.values;
     verdict::outcome(san, subject, constraints, &values[..count], references)
-}
-
-// Its six numbers.
-fn numbers_by(
-    san: &[u8],
-    subject: &[u8],
-    constraints: &[u8],
-    lengths: &[u8],
-    references: &[u8],
-) -> Verdict
-    ensures { λ r. ⌜ (r ≡ verdictOn (inputs (now (san .entry)) (now (subject .entry)) (now (constraints .entry)) (lengthsFromC (now (lengths .entry))) (now (references .entry))))
-        × SmallNumbers r ⌝ }
-{
-    let o = outcome_by(san, subject, constraints, lengths, references);
-    verdict::numbers(o)
-}
-
-// Where the witness's text lies.
-fn place_by(
-    san: &[u8],
-    subject: &[u8],
-    constraints: &[u8],
-    lengths: &[u8],
-    references: &[u8],
-) -> Place
-    ensures { λ r. ⌜ (r ≡ witnessPartOn (inputs (now (san .entry)) (now (subject .entry)) (now (constraints .entry)) (lengthsFromC (now (lengths .entry))) (now (references .entry))))
-        × SmallPlace r ⌝ }
-{
-    let o = outcome_by(san, subject, constraints, lengths, references);
-    verdict::text_of(o)
 }
 
 // The numbers and the text's place side by side.
@@ -124,10 +94,10 @@ pub extern "C" fn beckethand_answer(
     lengths: &[u8],
     references: &[u8],
 ) -> u32
-    ensures { λ r. ⌜ r ≡ verdictOn (inputs (now (san .entry)) (now (subject .entry)) (now (constraints .entry)) (lengthsFromC (now (lengths .entry))) (now (references .entry))) .answer ⌝ }
+    ensures { λ r. ⌜ r ≡ allNumbers (outcomeOn (inputs (now (san .entry)) (now (subject .entry)) (now (constraints .entry)) (lengthsFromC (now (lengths .entry))) (now (references .entry)))) .answer ⌝ }
 {
-    let v = numbers_by(san, subject, constraints, lengths, references);
-    narrow(v.answer)
+    let n = beckethand_verdict(san, subject, constraints, lengths, references);
+    n.answer
 }
 
 // The index of the reference that matches.
@@ -139,10 +109,10 @@ pub extern "C" fn beckethand_reference(
     lengths: &[u8],
     references: &[u8],
 ) -> u32
-    ensures { λ r. ⌜ r ≡ verdictOn (inputs (now (san .entry)) (now (subject .entry)) (now (constraints .entry)) (lengthsFromC (now (lengths .entry))) (now (references .entry))) .reference ⌝ }
+    ensures { λ r. ⌜ r ≡ allNumbers (outcomeOn (inputs (now (san .entry)) (now (subject .entry)) (now (constraints .entry)) (lengthsFromC (now (lengths .entry))) (now (references .entry)))) .reference ⌝ }
 {
-    let v = numbers_by(san, subject, constraints, lengths, references);
-    narrow(v.reference)
+    let n = beckethand_verdict(san, subject, constraints, lengths, references);
+    n.reference
 }
 
 // The index of the presented identifier that it matches, or of the first that breaks the constraints of an issuer.
@@ -154,10 +124,10 @@ pub extern "C" fn beckethand_presented(
     lengths: &[u8],
     references: &[u8],
 ) -> u32
-    ensures { λ r. ⌜ r ≡ verdictOn (inputs (now (san .entry)) (now (subject .entry)) (now (constraints .entry)) (lengthsFromC (now (lengths .entry))) (now (references .entry))) .presented ⌝ }
+    ensures { λ r. ⌜ r ≡ allNumbers (outcomeOn (inputs (now (san .entry)) (now (subject .entry)) (now (constraints .entry)) (lengthsFromC (now (lengths .entry))) (now (references .entry)))) .presented ⌝ }
 {
-    let v = numbers_by(san, subject, constraints, lengths, references);
-    narrow(v.presented)
+    let n = beckethand_verdict(san, subject, constraints, lengths, references);
+    n.presented
 }
 
 // Where the identifier's DER element starts.
@@ -169,10 +139,10 @@ pub extern "C" fn beckethand_start(
     lengths: &[u8],
     references: &[u8],
 ) -> u32
-    ensures { λ r. ⌜ r ≡ verdictOn (inputs (now (san .entry)) (now (subject .entry)) (now (constraints .entry)) (lengthsFromC (now (lengths .entry))) (now (references .entry))) .start ⌝ }
+    ensures { λ r. ⌜ r ≡ allNumbers (outcomeOn (inputs (now (san .entry)) (now (subject .entry)) (now (constraints .entry)) (lengthsFromC (now (lengths .entry))) (now (references .entry)))) .start ⌝ }
 {
-    let v = numbers_by(san, subject, constraints, lengths, references);
-    narrow(v.start)
+    let n = beckethand_verdict(san, subject, constraints, lengths, references);
+    n.start
 }
 
 // How long that element is.
@@ -184,10 +154,10 @@ pub extern "C" fn beckethand_length(
     lengths: &[u8],
     references: &[u8],
 ) -> u32
-    ensures { λ r. ⌜ r ≡ verdictOn (inputs (now (san .entry)) (now (subject .entry)) (now (constraints .entry)) (lengthsFromC (now (lengths .entry))) (now (references .entry))) .length ⌝ }
+    ensures { λ r. ⌜ r ≡ allNumbers (outcomeOn (inputs (now (san .entry)) (now (subject .entry)) (now (constraints .entry)) (lengthsFromC (now (lengths .entry))) (now (references .entry)))) .length ⌝ }
 {
-    let v = numbers_by(san, subject, constraints, lengths, references);
-    narrow(v.length)
+    let n = beckethand_verdict(san, subject, constraints, lengths, references);
+    n.length
 }
 
 // The index of the issuer whose constraints are broken.
@@ -199,10 +169,10 @@ pub extern "C" fn beckethand_issuer(
     lengths: &[u8],
     references: &[u8],
 ) -> u32
-    ensures { λ r. ⌜ r ≡ verdictOn (inputs (now (san .entry)) (now (subject .entry)) (now (constraints .entry)) (lengthsFromC (now (lengths .entry))) (now (references .entry))) .issuer ⌝ }
+    ensures { λ r. ⌜ r ≡ allNumbers (outcomeOn (inputs (now (san .entry)) (now (subject .entry)) (now (constraints .entry)) (lengthsFromC (now (lengths .entry))) (now (references .entry)))) .issuer ⌝ }
 {
-    let v = numbers_by(san, subject, constraints, lengths, references);
-    narrow(v.issuer)
+    let n = beckethand_verdict(san, subject, constraints, lengths, references);
+    n.issuer
 }
 
 // Where the witness's text starts.
@@ -214,10 +184,10 @@ pub extern "C" fn beckethand_text_start(
     lengths: &[u8],
     references: &[u8],
 ) -> u32
-    ensures { λ r. ⌜ r ≡ witnessPartOn (inputs (now (san .entry)) (now (subject .entry)) (now (constraints .entry)) (lengthsFromC (now (lengths .entry))) (now (references .entry))) .start ⌝ }
+    ensures { λ r. ⌜ r ≡ allNumbers (outcomeOn (inputs (now (san .entry)) (now (subject .entry)) (now (constraints .entry)) (lengthsFromC (now (lengths .entry))) (now (references .entry)))) .«text_start» ⌝ }
 {
-    let p = place_by(san, subject, constraints, lengths, references);
-    narrow(p.start)
+    let n = beckethand_verdict(san, subject, constraints, lengths, references);
+    n.text_start
 }
 
 // How long it is.
@@ -229,10 +199,10 @@ pub extern "C" fn beckethand_text_length(
     lengths: &[u8],
     references: &[u8],
 ) -> u32
-    ensures { λ r. ⌜ r ≡ witnessPartOn (inputs (now (san .entry)) (now (subject .entry)) (now (constraints .entry)) (lengthsFromC (now (lengths .entry))) (now (references .entry))) .length ⌝ }
+    ensures { λ r. ⌜ r ≡ allNumbers (outcomeOn (inputs (now (san .entry)) (now (subject .entry)) (now (constraints .entry)) (lengthsFromC (now (lengths .entry))) (now (references .entry)))) .«text_length» ⌝ }
 {
-    let p = place_by(san, subject, constraints, lengths, references);
-    narrow(p.length)
+    let n = beckethand_verdict(san, subject, constraints, lengths, references);
+    n.text_length
 }
 
 // The record reader's answer.

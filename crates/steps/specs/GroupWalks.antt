@@ -31,7 +31,7 @@ use Rattle.entries.specs.Texts.{TextAt, EndsIn, ends-append, ends-element, ends
 use Rattle.entries.specs.declared.Name.{Name}
 use Rattle.entries.specs.declared.Name.the-variants.{Is, Malformed}
 use Rattle.steps.specs.Steps.{stopped, nextGroup, cursor, shown, setOpened, attributeNext, subjectStart, subjectEntry, subjectStep, sideOpened, subtreeNext, constraintsStart, constraintsEntry, constraintsStep}
-use Rattle.steps.specs.Walks.{Shows, Walk, done, step-to, run-cons, name-of, written-length, content-start, outer-read}
+use Rattle.steps.specs.Walks.{Walk, done, step-to, run-cons, name-of, written-length, content-start, outer-read}
 use Rattle.steps.specs.declared.Cursor.{Cursor}
 use Rattle.steps.specs.declared.Step.{Step}
 
@@ -58,13 +58,12 @@ run-on f s n end a l e q =
 
 -- ---- the members of a group
 
-module _ {A : Type 0} (f : Raw → Option A) (write : A → List ℕ) (row : ℕ → ℕ → A → Row) (step : Cursor → Step) (Show : Step → Member A → Type 0) (s : List ℕ) (nextOf : ℕ → ℕ → ℕ → Cursor) where
+module _ {A : Type 0} (f : Raw → Option A) (write : A → List ℕ) (row : ℕ → ℕ → A → Row) (step : Cursor → Step) (s : List ℕ) (nextOf : ℕ → ℕ → ℕ → Cursor) where
   -- the step at a member: its row, and where the walk goes on
   pub record Stepped (at end i n : ℕ) (a : A) : Type 0 where
     pub to : Step
     pub is : step (cursor at end i) ≡ to
     pub row-is : to .row ≡ row at i a
-    pub shows : Show to (record { group = i; value = a })
     pub next-is : to .next ≡ nextOf n end i
     pub there : at + length (write a) ≡ n
 
@@ -73,34 +72,27 @@ module _ {A : Type 0} (f : Raw → Option A) (write : A → List ℕ) (row : ℕ
 
   module _ (one : StepsAll) (go-on : (n end i : ℕ) → (n ≡ end → ⊥) → nextOf n end i ≡ cursor n end i) where
     pub members-walk : (a : A) (l : List A) (at end i : ℕ) {rest : List (Member A)} {rows : List Row} → at ≤ end → end ≤ length s
-        → items f (slice at end s) ≡ some (a ∷ l) → Walk step Show (nextOf end end i) rest rows
-        → Walk step Show (cursor at end i) (membersOf i (a ∷ l) ++ rest) (rowsOfMembers write row at i (a ∷ l) ++ rows)
+        → items f (slice at end s) ≡ some (a ∷ l) → Walk step (nextOf end end i) rest rows
+        → Walk step (cursor at end i) (membersOf i (a ∷ l) ++ rest) (rowsOfMembers write row at i (a ∷ l) ++ rows)
     unfolding rowsOfMembers
     members-walk a [] at end i {rest} {rows} h fits e w =
         run-cons f s at end h fits a [] e λ t b n found d q r.
         let o = one at end i t b n a h fits found d q in
         let y : n ≡ end = run-over f s n end (d .rest) fits r in
-        step-to (o .is) (o .row-is) (o .shows) (subst (λ c. Walk step Show c rest rows) (sym (o .next-is ∙ ap (λ x. nextOf x end i) y)) w)
+        step-to (o .is) (o .row-is) (subst (λ c. Walk step c rest rows) (sym (o .next-is ∙ ap (λ x. nextOf x end i) y)) w)
     members-walk a (a′ ∷ l) at end i {rest} {rows} h fits e w =
         run-cons f s at end h fits a (a′ ∷ l) e λ t b n found d q r.
         let o = one at end i t b n a h fits found d q in
         let y = go-on n end i (run-on f s n end a′ l r) in
         let v = members-walk a′ l n end i (d .rest) fits r w in
-        step-to (o .is) (o .row-is) (o .shows)
-        (subst (λ c. Walk step Show c (membersOf i (a′ ∷ l) ++ rest) (rowsOfMembers write row (at + length (write a)) i (a′ ∷ l) ++ rows)) (sym (o .next-is ∙ y))
-        (subst (λ x. Walk step Show (cursor n end i) (membersOf i (a′ ∷ l) ++ rest) (rowsOfMembers write row x i (a′ ∷ l) ++ rows)) (sym (o .there)) v))
+        step-to (o .is) (o .row-is)
+        (subst (λ c. Walk step c (membersOf i (a′ ∷ l) ++ rest) (rowsOfMembers write row (at + length (write a)) i (a′ ∷ l) ++ rows)) (sym (o .next-is ∙ y))
+        (subst (λ x. Walk step (cursor n end i) (membersOf i (a′ ∷ l) ++ rest) (rowsOfMembers write row x i (a′ ∷ l) ++ rows)) (sym (o .there)) v))
 
 -- ---- the subject
 
-pub record ShowsMember (s : List ℕ) (t : Step) (group kind : ℕ) (text : List ℕ) : Type 0 where
-  pub shows : Shows s t kind text
-  pub group-is : t .row .group ≡ group
-
-abbrev pub ShowsAttribute : List ℕ → Step → Member Attribute → Type 0
-ShowsAttribute s t m = ShowsMember s t (m .group) (attributeKind (m .value)) (m .value .content)
-
 module _ (s : List ℕ) where
-  attribute-steps : StepsAll readAttribute writeAttribute attributeRow (subjectStep s) (ShowsAttribute s) s (attributeNext s)
+  attribute-steps : StepsAll readAttribute writeAttribute attributeRow (subjectStep s) s (attributeNext s)
   unfolding subjectStep subjectEntry attributeAt placeAttribute attributeRow writeAttribute
   attribute-steps at end i t b n a h fits found d q =
       let k : n ≤ length s = omega (arith, d .rest) in
@@ -108,23 +100,10 @@ module _ (s : List ℕ) where
       let w = attributeC .sound (raw t (slice b n s)) q .1 in
       let y : attributeAt s t b n ≡ Is (attributeKind a) (a .tag) x = rw q in
       let len : length (writeAttribute a) ≡ n - at = written-length s at end t b n fits d (writeAttribute a) (ap writeRaw w) in
-      let back : at + (n - at) ≡ n = omega (arith, d .head, d .body) in
-      let en = ends-append (element 0x06 (a .oid)) (ends-element (a .tag) (ends-self (a .content))) in
-      let z : TextAt s b n x (a .content) = text-at s b n (d .body) k (rw (ap (λ v. v .content) w) en) in
       record {
         to = shown (attributeKind a) at n i x (attributeNext s n end i);
         is = rw (le-ltb (length s) end fits, le-ltb end at h, found, y);
         row-is = λ j. record { kind = attributeKind a; start = at; length = sym len j; group = i };
-        shows = record {
-          shows = record {
-            kind-is = refl;
-            text-is = rw back (z .text-is);
-            after = omega (arith, z .after, d .head);
-            within = rw back (z .within);
-            fits = rw back k;
-          };
-          group-is = refl;
-        };
         next-is = refl;
         there = omega (arith, len, d .head, d .body);
       }
@@ -151,7 +130,7 @@ module _ (s : List ℕ) where
   attribute-over n i h = rw (eq-eqb n n refl, lt-ltb i n h, add-one)
 
   sets-walk : (sets : List (List Attribute)) (at i : ℕ) → at ≤ length s → i ≤ at → items readSet (slice at (length s) s) ≡ some sets
-      → Walk (subjectStep s) (ShowsAttribute s) (setOpened s at i) (flat (numberFrom i sets)) (rowsOfGroups writeAttribute attributeRow at (numberFrom i sets))
+      → Walk (subjectStep s) (setOpened s at i) (flat (numberFrom i sets)) (rowsOfGroups writeAttribute attributeRow at (numberFrom i sets))
   unfolding flat numberFrom rowsOfGroups writeAttribute
   sets-walk [] at i h g e = done
   sets-walk ([] ∷ sets) at i h g e =
@@ -166,10 +145,10 @@ module _ (s : List ℕ) where
       let u : b ≡ at + header content = content-start s at (length s) t b n (omega arith) d ∙ ap (λ x. at + header x) c in
       let v : n ≡ at + header content + length content = omega (arith, u, ap length c, length-slice b n s k, d .body) in
       let rest = sets-walk sets n (suc i) k (omega (arith, d .head, d .body)) r in
-      let all = members-walk readAttribute writeAttribute attributeRow (subjectStep s) (ShowsAttribute s) s (attributeNext s) attribute-steps attribute-on a l b n i (d .body) k (p .1)
-      (subst (λ x. Walk (subjectStep s) (ShowsAttribute s) x (flat (numberFrom (suc i) sets)) (rowsOfGroups writeAttribute attributeRow n (numberFrom (suc i) sets))) (sym (attribute-over n i (omega (arith, d .head, d .body)))) rest) in
-      subst (λ x. Walk (subjectStep s) (ShowsAttribute s) x (flat (numberFrom i ((a ∷ l) ∷ sets))) (rowsOfGroups writeAttribute attributeRow at (numberFrom i ((a ∷ l) ∷ sets)))) (sym (set-opens at i t b n found (p .0)))
-      (subst₂ (λ x y. Walk (subjectStep s) (ShowsAttribute s) (cursor b n i) (flat (numberFrom i ((a ∷ l) ∷ sets))) (rowsOfMembers writeAttribute attributeRow x i (a ∷ l) ++ rowsOfGroups writeAttribute attributeRow y (numberFrom (suc i) sets))) u v all)
+      let all = members-walk readAttribute writeAttribute attributeRow (subjectStep s) s (attributeNext s) attribute-steps attribute-on a l b n i (d .body) k (p .1)
+      (subst (λ x. Walk (subjectStep s) x (flat (numberFrom (suc i) sets)) (rowsOfGroups writeAttribute attributeRow n (numberFrom (suc i) sets))) (sym (attribute-over n i (omega (arith, d .head, d .body)))) rest) in
+      subst (λ x. Walk (subjectStep s) x (flat (numberFrom i ((a ∷ l) ∷ sets))) (rowsOfGroups writeAttribute attributeRow at (numberFrom i ((a ∷ l) ∷ sets)))) (sym (set-opens at i t b n found (p .0)))
+      (subst₂ (λ x y. Walk (subjectStep s) (cursor b n i) (flat (numberFrom i ((a ∷ l) ∷ sets))) (rowsOfMembers writeAttribute attributeRow x i (a ∷ l) ++ rowsOfGroups writeAttribute attributeRow y (numberFrom (suc i) sets))) u v all)
 
 -- the sets as they are read are the groups as they are written
 run-numbered : (i : ℕ) (sets : List (List Attribute)) → run writeSet (numberFrom i sets) ≡ run (λ m. writeRaw (raw 0x31 (run writeAttribute m))) sets
@@ -178,7 +157,7 @@ run-numbered i [] = refl
 run-numbered i (m ∷ sets) = rw (run-numbered (suc i) sets)
 
 -- a subject that is read: from its start the steps show its list, with the rows of that list
-pub subject-walk : (s : List ℕ) (l : List (Member Attribute)) → readSubject s ≡ some l → Walk (subjectStep s) (ShowsAttribute s) (subjectStart s) l (subjectGrammar .rows l)
+pub subject-walk : (s : List ℕ) (l : List (Member Attribute)) → readSubject s ≡ some l → Walk (subjectStep s) (subjectStart s) l (subjectGrammar .rows l)
 unfolding readSubject readSets subjectStart writeSet
 subject-walk s l e =
     then-some (alone (tagged 0x30 (items readSet)) s) _ e λ sets p q.
@@ -188,13 +167,10 @@ subject-walk s l e =
     let g : groups l ≡ numberFrom 0 sets = ap groups m ∙ groups-numbered sets (c .0) in
     let w : run writeSet (numberFrom 0 sets) ≡ slice b (length s) s = run-numbered 0 sets ∙ sym (c .1) in
     let st : b ≡ header (run writeSet (groups l)) = content-start s 0 (length s) t b (length s) (omega arith) d ∙ omega arith ∙ ap header (sym (ap (run writeSet) g ∙ w)) in
-    rw found (subst₂ (λ x gs. Walk (subjectStep s) (ShowsAttribute s) (setOpened s b 0) l (rowsOfGroups writeAttribute attributeRow x gs)) st (sym g)
-    (subst (λ y. Walk (subjectStep s) (ShowsAttribute s) (setOpened s b 0) y (rowsOfGroups writeAttribute attributeRow b (numberFrom 0 sets))) (sym m) (sets-walk s sets b 0 (d .body) (omega arith) r)))
+    rw found (subst₂ (λ x gs. Walk (subjectStep s) (setOpened s b 0) l (rowsOfGroups writeAttribute attributeRow x gs)) st (sym g)
+    (subst (λ y. Walk (subjectStep s) (setOpened s b 0) y (rowsOfGroups writeAttribute attributeRow b (numberFrom 0 sets))) (sym m) (sets-walk s sets b 0 (d .body) (omega arith) r)))
 
 -- ---- constraints
-
-abbrev pub ShowsSubtree : List ℕ → Step → Member GeneralName → Type 0
-ShowsSubtree s t m = ShowsMember s t (m .group) (nameKind (m .value)) (textOf (m .value))
 
 module _ (s : List ℕ) where
   shape-of : (x : Raw) (m : GeneralName) → readSubtree x ≡ some m → readShape x ≡ some m
@@ -208,7 +184,7 @@ module _ (s : List ℕ) where
       let n : nameOf y ≡ some m = name-of s y m′ i ∙ o in
       rw (is-true (eqb (x .tag) 0x30) v, p, z) n
 
-  subtree-steps : StepsAll readSubtree writeSubtree subtreeRow (constraintsStep s) (ShowsSubtree s) s (subtreeNext s)
+  subtree-steps : StepsAll readSubtree writeSubtree subtreeRow (constraintsStep s) s (subtreeNext s)
   unfolding constraintsStep constraintsEntry subtreeAt placeName subtreeRow writeSubtree writeName
   subtree-steps at end i t b n m h fits found d q =
       let k : n ≤ length s = omega (arith, d .rest) in
@@ -219,23 +195,10 @@ module _ (s : List ℕ) where
       let u : b ≡ at + header (writeName m) = content-start s at end t b n fits d ∙ ap (λ v. at + header v) c in
       let len : n - b ≡ length (writeName m) = sym (length-slice b n s k) ∙ ap length c in
       let whole : length (writeSubtree m) ≡ n - at = written-length s at end t b n fits d (writeSubtree m) (ap writeRaw w) in
-      let back : b + (n - b) ≡ n = omega (arith, d .body) in
-      let en : EndsIn (writeName m) (textOf m) = ends-element (tagOf m) (name-ends m) in
-      let z : TextAt s b n x (textOf m) = text-at s b n (d .body) k (rw c en) in
       record {
         to = shown (nameKind m) b n i x (subtreeNext s n end i);
         is = rw (le-ltb (length s) end fits, le-ltb end at h, found, y);
         row-is = λ j. record { kind = nameKind m; start = u j; length = len j; group = i };
-        shows = record {
-          shows = record {
-            kind-is = refl;
-            text-is = rw back (z .text-is);
-            after = z .after;
-            within = rw back (z .within);
-            fits = rw back k;
-          };
-          group-is = refl;
-        };
         next-is = refl;
         there = omega (arith, whole, d .head, d .body);
       }
@@ -267,15 +230,15 @@ module _ (s : List ℕ) where
 
   -- a side that is read is walked, and then what follows it
   side-walk : (i : ℕ) (ms : List GeneralName) (b n : ℕ) {rest : List (Member GeneralName)} {rows : List Row} → b ≤ n → n ≤ length s → T (some? ms) → items readSubtree (slice b n s) ≡ some ms
-      → Walk (constraintsStep s) (ShowsSubtree s) (sideOpened s n) rest rows
-      → Walk (constraintsStep s) (ShowsSubtree s) (cursor b n i) (membersOf i ms ++ rest) (rowsOfMembers writeSubtree subtreeRow b i ms ++ rows)
+      → Walk (constraintsStep s) (sideOpened s n) rest rows
+      → Walk (constraintsStep s) (cursor b n i) (membersOf i ms ++ rest) (rowsOfMembers writeSubtree subtreeRow b i ms ++ rows)
   side-walk i [] b n h fits t e w = absurd t
   side-walk i (m ∷ ms) b n {rest} {rows} h fits t e w =
-      members-walk readSubtree writeSubtree subtreeRow (constraintsStep s) (ShowsSubtree s) s (subtreeNext s) subtree-steps subtree-on m ms b n i h fits e
-      (subst (λ x. Walk (constraintsStep s) (ShowsSubtree s) x rest rows) (sym (subtree-over n i)) w)
+      members-walk readSubtree writeSubtree subtreeRow (constraintsStep s) s (subtreeNext s) subtree-steps subtree-on m ms b n i h fits e
+      (subst (λ x. Walk (constraintsStep s) x rest rows) (sym (subtree-over n i)) w)
 
   sides-walk : (gs : List (Group GeneralName)) (at : ℕ) → at ≤ length s → items readSide (slice at (length s) s) ≡ some gs
-      → Walk (constraintsStep s) (ShowsSubtree s) (sideOpened s at) (flat gs) (rowsOfGroups writeSubtree subtreeRow at gs)
+      → Walk (constraintsStep s) (sideOpened s at) (flat gs) (rowsOfGroups writeSubtree subtreeRow at gs)
   unfolding flat rowsOfGroups
   sides-walk [] at h e = done
   sides-walk (g ∷ gs) at h e =
@@ -288,11 +251,11 @@ module _ (s : List ℕ) where
       let rest = sides-walk gs n k r in
       let opens : sideOpened s at ≡ cursor b n (g .number) = side-opens at t b n found ∙ ap (cursor b n) (p .0) in
       let all = side-walk (g .number) (g .members) b n (d .body) k (p .3) (p .2) rest in
-      subst (λ x. Walk (constraintsStep s) (ShowsSubtree s) x (flat (g ∷ gs)) (rowsOfGroups writeSubtree subtreeRow at (g ∷ gs))) (sym opens)
-      (subst₂ (λ x y. Walk (constraintsStep s) (ShowsSubtree s) (cursor b n (g .number)) (flat (g ∷ gs)) (rowsOfMembers writeSubtree subtreeRow x (g .number) (g .members) ++ rowsOfGroups writeSubtree subtreeRow y gs)) u v all)
+      subst (λ x. Walk (constraintsStep s) x (flat (g ∷ gs)) (rowsOfGroups writeSubtree subtreeRow at (g ∷ gs))) (sym opens)
+      (subst₂ (λ x y. Walk (constraintsStep s) (cursor b n (g .number)) (flat (g ∷ gs)) (rowsOfMembers writeSubtree subtreeRow x (g .number) (g .members) ++ rowsOfGroups writeSubtree subtreeRow y gs)) u v all)
 
 -- constraints that are read: from their start the steps show their list, with the rows of that list
-pub constraints-walk : (s : List ℕ) (l : List (Member GeneralName)) → readConstraints s ≡ some l → Walk (constraintsStep s) (ShowsSubtree s) (constraintsStart s) l (constraintsGrammar .rows l)
+pub constraints-walk : (s : List ℕ) (l : List (Member GeneralName)) → readConstraints s ≡ some l → Walk (constraintsStep s) (constraintsStart s) l (constraintsGrammar .rows l)
 unfolding readConstraints readSides constraintsStart writeSide
 constraints-walk s l e =
     then-some (alone (tagged 0x30 (also (λ gs. some? gs && chain rising gs) (items readSide))) s) _ e λ gs p q.
@@ -304,5 +267,5 @@ constraints-walk s l e =
     when-some (some? gs′ && chain rising gs′) (some gs′) z λ v w.
     let i : items readSide (slice b (length s) s) ≡ some gs = y ∙ w in
     let st : b ≡ header (run writeSide (groups l)) = content-start s 0 (length s) t b (length s) (omega arith) d ∙ omega arith ∙ ap header (c .1 ∙ ap (run writeSide) (sym g)) in
-    rw found (subst₂ (λ x hs. Walk (constraintsStep s) (ShowsSubtree s) (sideOpened s b) l (rowsOfGroups writeSubtree subtreeRow x hs)) st (sym g)
-    (subst (λ y. Walk (constraintsStep s) (ShowsSubtree s) (sideOpened s b) y (rowsOfGroups writeSubtree subtreeRow b gs)) (sym m) (sides-walk s gs b (d .body) i)))
+    rw found (subst₂ (λ x hs. Walk (constraintsStep s) (sideOpened s b) l (rowsOfGroups writeSubtree subtreeRow x hs)) st (sym g)
+    (subst (λ y. Walk (constraintsStep s) (sideOpened s b) y (rowsOfGroups writeSubtree subtreeRow b gs)) (sym m) (sides-walk s gs b (d .body) i)))

@@ -33,26 +33,17 @@ use Rattle.steps.specs.Steps.{stopped, nextGroup, cursor, shown, orElse,
 use Rattle.steps.specs.declared.Cursor.{Cursor}
 use Rattle.steps.specs.declared.Step.{Step}
 
--- a step shows a name of this kind and text: the text is the last of the row's element
-pub record Shows (s : List ℕ) (t : Step) (kind : ℕ) (text : List ℕ) : Type 0 where
-  pub kind-is : t .row .kind ≡ kind
-  pub text-is : text ≡ slice (t .text) (t .row .start + t .row .length) s
-  pub after : t .row .start ≤ t .text
-  pub within : t .text ≤ t .row .start + t .row .length
-  pub fits : t .row .start + t .row .length ≤ length s
-
 -- from this cursor the steps show these names, and these are their rows
-pub data Walk {A : Type 0} (step : Cursor → Step) (Show : Step → A → Type 0) : Cursor → List A → List Row → Type 0 where
-  done : {c : Cursor} → Walk step Show c [] []
+pub data Walk {A : Type 0} (step : Cursor → Step) : Cursor → List A → List Row → Type 0 where
+  done : {c : Cursor} → Walk step c [] []
   more : {c : Cursor} {a : A} {l : List A} {row : Row} {rows : List Row}
-      → step c .row ≡ row → Show (step c) a → Walk step Show (step c .next) l rows → Walk step Show c (a ∷ l) (row ∷ rows)
+      → step c .row ≡ row → Walk step (step c .next) l rows → Walk step c (a ∷ l) (row ∷ rows)
 
-module _ {A : Type 0} {step : Cursor → Step} {Show : Step → A → Type 0} where
+module _ {A : Type 0} {step : Cursor → Step} where
   -- a step that is known, and the walk from there on
   pub step-to : {c : Cursor} {a : A} {l : List A} {row : Row} {rows : List Row} {t : Step}
-      → step c ≡ t → t .row ≡ row → Show t a → Walk step Show (t .next) l rows → Walk step Show c (a ∷ l) (row ∷ rows)
-  step-to {a} {l} {rows} e p q w =
-      more {a = a} (ap (λ x. x .row) e ∙ p) (subst (λ x. Show x a) (sym e) q) (subst (λ x. Walk step Show (x .next) l rows) (sym e) w)
+      → step c ≡ t → t .row ≡ row → Walk step (t .next) l rows → Walk step c (a ∷ l) (row ∷ rows)
+  step-to {a} {l} {rows} e p w = more {a = a} (ap (λ x. x .row) e ∙ p) (subst (λ x. Walk step (x .next) l rows) (sym e) w)
 
 -- the rows of the first k steps
 unfoldable pub rowsBy : (Cursor → Step) → ℕ → Cursor → List Row
@@ -60,11 +51,11 @@ rowsBy step zero c = []
 rowsBy step (suc k) c = step c .row ∷ rowsBy step k (step c .next)
 
 -- as many steps as there are names write the rows of the list
-pub walk-rows : {A : Type 0} {step : Cursor → Step} {Show : Step → A → Type 0} {c : Cursor} {l : List A} {rows : List Row}
-    → Walk step Show c l rows → rowsBy step (length l) c ≡ rows
+pub walk-rows : {A : Type 0} {step : Cursor → Step} {c : Cursor} {l : List A} {rows : List Row}
+    → Walk step c l rows → rowsBy step (length l) c ≡ rows
 unfolding rowsBy
 walk-rows done = refl
-walk-rows (more e q w) = λ i. e i ∷ walk-rows w i
+walk-rows (more e w) = λ i. e i ∷ walk-rows w i
 
 pub not-empty : (b : List ℕ) → (b ≡ [] → ⊥) → 1 ≤ length b
 not-empty [] h = absurd (h refl)
@@ -102,9 +93,6 @@ module _ {A X : Type 0} (f : Raw → Option A) (s : List ℕ) (at end : ℕ) (h 
 
 -- ---- SAN
 
-abbrev pub ShowsName : List ℕ → Step → GeneralName → Type 0
-ShowsName s t n = Shows s t (nameKind n) (textOf n)
-
 -- the element of a name that is read is as long as the name is written
 module _ (s : List ℕ) (at end t b n : ℕ) (fits : end ≤ length s) (d : Read s at end t b n) where
   pub written-length : (w : List ℕ) → writeRaw (raw t (slice b n s)) ≡ w → length w ≡ n - at
@@ -125,30 +113,19 @@ module _ (s : List ℕ) where
       p ∙ r
 
   pub names-walk : (l : List GeneralName) (at end i : ℕ) → at ≤ end → end ≤ length s → i ≤ at → items readName (slice at end s) ≡ some l
-      → Walk (sanStep s) (ShowsName s) (cursor at end i) l (rowsOfNames at i l)
+      → Walk (sanStep s) (cursor at end i) l (rowsOfNames at i l)
   unfolding rowsOfNames nameAt placeName nextGroup writeName
   names-walk [] at end i h fits g e = done
   names-walk (m ∷ l) at end i h fits g e =
       run-cons readName s at end h fits m l e λ t b n found d q r.
-      let k : n ≤ length s = omega (arith, d .rest) in
       let o = name-of (raw t (slice b n s)) m q in
       let x = n - length (textOf m) in
       let y : nameAt s t b n ≡ Is (nameKind m) (textTagOf m) x = rw o in
-      let z = named s b n (d .body) k t (nameKind m) (textTagOf m) x y in
-      let same : z .name ≡ m = cc (z .reads, o) in
       let len : length (writeName m) ≡ n - at = written-length s at end t b n fits d (writeName m) (ap writeRaw (nameC .sound (raw t (slice b n s)) q .1)) in
       let there : at + length (writeName m) ≡ n = omega (arith, d .head, d .body) in
-      let back : at + (n - at) ≡ n = omega (arith, d .head, d .body) in
       let group : nextGroup i n ≡ suc i = rw (lt-ltb i n (omega (arith, d .head, d .body))) (add-one i) in
       step-to (san-step-is at end i t b n (nameKind m) (textTagOf m) x h fits found y)
       (λ j. record { kind = nameKind m; start = at; length = sym len j; group = i })
-      (record {
-        kind-is = refl;
-        text-is = rw back (rw same at (z .text-is .text-is));
-        after = omega (arith, z .text-is .after, d .head);
-        within = rw back (z .text-is .within);
-        fits = rw back k;
-      })
       (rw (group, there) (names-walk l n end (suc i) (d .rest) fits (omega (arith, d .head, d .body)) r))
 
 -- ---- where an element's content starts
@@ -186,7 +163,7 @@ module _ {A X : Type 0} (f : List ℕ → Option A) (s : List ℕ) (a : A) where
               absurd (no-some (sym (alone-open s (length s) (omega arith) 0 (omega arith) 0x30 f (taggedAt s 0 (length s) 0x30) refl t b n q (eqb-false n (length s) w)) ∙ at-start))
 
 -- a SAN that is read: from its start the steps show its list, with the rows of that list
-pub san-walk : (s : List ℕ) (l : List GeneralName) → readSan s ≡ some l → Walk (sanStep s) (ShowsName s) (sanStart s) l (sanGrammar .rows l)
+pub san-walk : (s : List ℕ) (l : List GeneralName) → readSan s ≡ some l → Walk (sanStep s) (sanStart s) l (sanGrammar .rows l)
 unfolding readSan sanStart writeName
 san-walk s l e =
     outer-read (also some? (items readName)) s l e λ t b found d q.
@@ -195,4 +172,4 @@ san-walk s l e =
     let i : items readName (slice b (length s) s) ≡ some l = u ∙ z in
     let c = itemsC nameC .sound (slice b (length s) s) i .1 in
     let st : b ≡ header (run writeName l) = content-start s 0 (length s) t b (length s) (omega arith) d ∙ ap (λ x. 0 + header x) c ∙ omega arith in
-    rw found (subst (λ x. Walk (sanStep s) (ShowsName s) (cursor b (length s) 0) l (rowsOfNames x 0 l)) st (names-walk s l b (length s) 0 (d .body) (omega arith) (omega arith) i))
+    rw found (subst (λ x. Walk (sanStep s) (cursor b (length s) 0) l (rowsOfNames x 0 l)) st (names-walk s l b (length s) 0 (d .body) (omega arith) (omega arith) i))

@@ -1,12 +1,6 @@
 use borrow.Author.Needs.{needs}
-use Rattle.beckethand.proofs.Laws.{laws}
 use Rattle.beckethand.proofs.beckethand_presented.Statement.{statement}
 use Rattle.beckethand.proofs.beckethand_presented.Tie as tie
 
 pub beckethand-presented-spec : {M : Type 1} → statement M
-beckethand-presented-spec =
-    tie.close
-    (tie.spec
-    (λ c κs. search needs)
-    (λ c κs. search needs)
-    (λ c. search (needs, laws)))
+beckethand-presented-spec = tie.close (tie.spec (λ c κs. search needs) (λ c. cc))

@@ -1,12 +1,6 @@
 use borrow.Author.Needs.{needs}
-use Rattle.beckethand.proofs.Laws.{laws}
 use Rattle.beckethand.proofs.beckethand_reference.Statement.{statement}
 use Rattle.beckethand.proofs.beckethand_reference.Tie as tie
 
 pub beckethand-reference-spec : {M : Type 1} → statement M
-beckethand-reference-spec =
-    tie.close
-    (tie.spec
-    (λ c κs. search needs)
-    (λ c κs. search needs)
-    (λ c. search (needs, laws)))
+beckethand-reference-spec = tie.close (tie.spec (λ c κs. search needs) (λ c. cc))

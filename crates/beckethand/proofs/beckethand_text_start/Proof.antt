@@ -1,12 +1,6 @@
 use borrow.Author.Needs.{needs}
-use Rattle.beckethand.proofs.Laws.{laws}
 use Rattle.beckethand.proofs.beckethand_text_start.Statement.{statement}
 use Rattle.beckethand.proofs.beckethand_text_start.Tie as tie
 
 pub beckethand-text-start-spec : {M : Type 1} → statement M
-beckethand-text-start-spec =
-    tie.close
-    (tie.spec
-    (λ c κs. search needs)
-    (λ c κs. search needs)
-    (λ c. search (needs, laws)))
+beckethand-text-start-spec = tie.close (tie.spec (λ c κs. search needs) (λ c. cc))
