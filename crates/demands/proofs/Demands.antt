@@ -26,15 +26,15 @@ demand1 = record { verdict = verdicts; records = records; listing = listings }
 
 pub demand2 : Demand2
 demand2 = record {
-  match = match-exactly;
   first = first-pair;
   no-witness = no-witness;
   kinds = kinds;
   entry-index = entry-index;
   set-index = set-index;
-  broken = any-broken;
   breaks = breaks-string;
   kept-out = kept-out;
+  match = match-exactly;
+  broken = any-broken;
 }
 
 -- what is seen decides the outcome, for nothing else is seen of a string

@@ -13,7 +13,7 @@ use Rattle.rules.specs.Der.{Member}
 use Rattle.rules.specs.San.{GeneralName}
 use Rattle.rules.specs.Subject.{Attribute}
 use Rattle.rules.specs.Seen.{Seen, tooLong, unreadable, listed, sanInput, subjectInput, constraintsInput, Reads, seenRecords}
-use Rattle.rules.specs.Verdict.{isLong, isUnreadable, judged, outcomeOf, numbers, numbersOf}
+use Rattle.rules.specs.Verdict.{isLong, isUnreadable, judged, outcomeOf, numbers, numbersOf, verdictOf}
 use Rattle.reading.specs.Views.{seenSan, seenSubject}
 use Rattle.reading.specs.Calls.{Inputs, seenIssuers, outcomeOn, verdictOn}
 use Rattle.demands.specs.Statements.{TooLong, RecordsUnreadable, Unreadable, SomeString, Names, Read}
@@ -107,7 +107,7 @@ module _ (s : Inputs) where
 module _ (s : Inputs) where
   -- a string that is too long is seen so, and answered 7
   pub long-seen : TooLong s → verdictOn s ≡ numbers 7 0 0 0 0 0
-  unfolding verdictOn outcomeOn
+  unfolding verdictOn verdictOf outcomeOn
   long-seen h = seven _ _ _ _ (or-four _ _ _ _ (go h))
     where
       go : TooLong s → (isLong (seenRecords (s .references)) ≡ true) ⊎ (isLong (seenSan (s .san)) ≡ true) ⊎ (isLong (seenSubject (s .subject)) ≡ true) ⊎ (isLong (issuers s) ≡ true)
@@ -140,7 +140,7 @@ module _ (s : Inputs) where
 
     -- records that are good, and what is left to judge
     past-records : goodRecords (s .references) ≡ true → Ending s
-    unfolding verdictOn outcomeOn
+    unfolding verdictOn verdictOf outcomeOn
     past-records e = go (read-or-not san-faithful (s .san) (f .san)) (read-or-not subject-faithful (s .subject) (f .subject)) (handed s)
       where
         a : isUnreadable (seenRecords (s .references)) ≡ false
@@ -171,7 +171,7 @@ module _ (s : Inputs) where
 
   -- every four strings end in one of these ways
   pub ending : Ending s
-  unfolding verdictOn outcomeOn
+  unfolding verdictOn verdictOf outcomeOn
   ending = go long-or-fits
     where
       past : (f : Fits s) (t : Bool) → goodRecords (s .references) ≡ t → Ending s

@@ -11,14 +11,14 @@ use lib.Dec.{leb}
 use lib.ListN.{length, getElem?}
 use borrow.Author.Tests.{leb-true, leb-false}
 use Rattle.rules.specs.Seen.{listed}
-use Rattle.rules.specs.Viewer.{rowFrom, rowOrEnd, viewOf, openingAt, nthAt, nthSight}
+use Rattle.rules.specs.Viewer.{rowFrom, rowOrEnd, viewOf, openingAt}
 use Rattle.rules.specs.declared.Row.{Row}
 use Rattle.rules.specs.declared.Sight.{Sight}
 use Rattle.rules.specs.declared.Sight.the-variants.{Name}
 use Rattle.rules.specs.declared.View.{View}
 use Rattle.reading.specs.Answers.{no-some}
 use Rattle.reading.specs.Laid.{Laid, next, row-here, row-later, row-none, end-or-row}
-use Rattle.demands.specs.Viewing.{shows, endAt, FirstFrom, NoneFrom}
+use Rattle.demands.specs.Viewing.{shows, endAt, FirstFrom, NoneFrom, nthAt, nthSight}
 
 -- ---- the first row from a position
 

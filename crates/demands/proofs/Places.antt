@@ -10,10 +10,10 @@ use lib.ListN.{length, take, getElem?, length-append}
 use lib.Dec.{T, ltb, eqb, eqb→eq}
 use borrow.Author.Tests.{ltb-true, ltb-false, eq-eqb, eqb-true, eqb-false}
 use Rattle.rules.specs.Bytes.{same}
-use Rattle.rules.specs.Der.{Member, Group, lengthBytes, element, header, run, groups, rowsOfMembers, rowsOfGroups, Writes}
+use Rattle.rules.specs.Der.{Member, Group, element, header, run, groups, rowsOfMembers, rowsOfGroups, Writes}
 use Rattle.rules.specs.San.{GeneralName, plain, other, srvOid, nameKind, writeName, rowsOfNames, sanGrammar}
 use Rattle.rules.specs.Subject.{Attribute, isCn, cnOid, cnTag, attributeKind, writeAttribute, attributeRow, writeSet, subjectGrammar}
-use Rattle.rules.specs.Constraints.{writeSubtree, subtreeRow, writeSide, constraintsGrammar}
+use Rattle.rules.specs.Constraints.{writeSubtree, subtreeRow, writeSide}
 use Rattle.rules.specs.declared.Row.{Row}
 use Rattle.reading.specs.Strings.{flat}
 use Rattle.reading.specs.Groups.{members, flat-groups}

@@ -6,7 +6,7 @@ use mathlib.Core.List.{List, [], _∷_}
 use native.Mathlib.Omega.{arith}
 use Rattle.rules.specs.declared.Verdict.{Verdict}
 use Rattle.rules.specs.Matching.{Presented}
-use Rattle.rules.specs.Verdict.{witnessOf, numbers, numbersOf}
+use Rattle.rules.specs.Verdict.{witnessOf, numbers, numbersOf, verdictOf}
 use Rattle.rules.specs.declared.Outcome.the-variants.{Broken, Matched, Mismatched}
 use Rattle.reading.specs.Calls.{Inputs, outcomeOn, verdictOn}
 use Rattle.demands.specs.Statements.{Names, Read, BreaksAt, PairAt, Answer, when, verdictAnswers, Verdicts}
@@ -25,15 +25,15 @@ answer e = ap (λ x. x .answer) e
 -- the numbers of each outcome where all is read
 module _ (s : Inputs) where
   pub is-broken : {k i : ℕ} → outcomeOn s ≡ Broken (record { issuer = k; presented = i }) → verdictOn s ≡ numbers 2 0 i 0 0 k
-  unfolding verdictOn numbersOf
+  unfolding verdictOn verdictOf outcomeOn numbersOf
   is-broken e = ap numbersOf e
 
   pub is-matched : {l : Names} {i j : ℕ} (p : PairAt l i j) → outcomeOn s ≡ Matched (witnessOf (pairOf p)) → verdictOn s ≡ pairNumbers i (p .match .presented)
-  unfolding verdictOn numbersOf witnessOf
+  unfolding verdictOn verdictOf outcomeOn numbersOf witnessOf
   is-matched p e = ap numbersOf e
 
   pub is-mismatched : outcomeOn s ≡ Mismatched → verdictOn s ≡ numbers 1 0 0 0 0 0
-  unfolding verdictOn numbersOf
+  unfolding verdictOn verdictOf outcomeOn numbersOf
   is-mismatched e = ap numbersOf e
 
 module _ (s : Inputs) (l : Names) (r : Read s l) where

@@ -9,13 +9,13 @@ use lib.ListN.{length, getElem?}
 use lib.Dec.{T}
 use Rattle.rules.specs.Seen.{Seen, tooLong, unreadable, listed, Sees}
 use Rattle.rules.specs.Listing.{rowsSeen}
-use Rattle.rules.specs.Viewer.{rowOrEnd, viewOf, openingOf, openingAt, nthAt, nthSight}
+use Rattle.rules.specs.Viewer.{rowOrEnd, viewOf, openingOf, openingAt}
 use Rattle.rules.specs.declared.Row.{Row}
 use Rattle.rules.specs.declared.Sight.the-variants.{Name}
 use Rattle.reading.specs.Calls.{seenRows, openingOn, viewOn}
 use Rattle.reading.specs.Laid.{Laid, rows-laid}
 use Rattle.demands.specs.Statements.{CertificateString, stringOf}
-use Rattle.demands.specs.Viewing.{openingAnswers, shows, endAt, FirstFrom, NoneFrom, Viewing}
+use Rattle.demands.specs.Viewing.{openingAnswers, shows, endAt, FirstFrom, NoneFrom, nthAt, nthSight, Viewing}
 use Rattle.demands.proofs.Order.{Chosen, each-exactly}
 use Rattle.demands.proofs.Listings.{Lists, lists, seen-rows}
 use Rattle.demands.proofs.Paging.{shows-first, shows-none, pages, pages-end}

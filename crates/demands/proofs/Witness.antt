@@ -18,7 +18,7 @@ use Rattle.rules.specs.San.{GeneralName, srvOid, tagOf, contentOf, writeName}
 use Rattle.rules.specs.Subject.{Attribute, writeAttribute, isCn, cnTag}
 use Rattle.rules.specs.Seen.{sanInput, subjectInput, Reads}
 use Rattle.rules.specs.Matching.{Presented, matches, textMatches, taggedText, srvText, entryText, soleCn, cnText}
-use Rattle.rules.specs.Verdict.{textOf, textPlace, past, witnessOf, numbersOf, witnessPart, witnessText, witnessPlace}
+use Rattle.rules.specs.Verdict.{textOf, textPlace, past, witnessOf, numbersOf, verdictOf, witnessPart, witnessText, witnessPlace}
 use Rattle.rules.specs.declared.Row.{Row}
 use Rattle.rules.specs.declared.Outcome.{Outcome}
 use Rattle.rules.specs.declared.Outcome.the-variants.{Refused, Broken, Matched, Mismatched}
@@ -207,5 +207,5 @@ none-of Mismatched h san subject = (refl, refl, λ at at′. refl)
 pub no-witness :
     (s : Inputs) → verdictOn s .answer ≢ 0
     → (witnessTextOn s ≡ []) × (witnessPartOn s ≡ record { start = 0; length = 0 }) × ((san subject : ℕ × ℕ) → witnessPlaceOn s san subject ≡ san)
-unfolding verdictOn witnessTextOn witnessPartOn witnessPlaceOn
+unfolding verdictOn verdictOf outcomeOn witnessTextOn witnessPartOn witnessPlaceOn
 no-witness s h = none-of (outcomeOn s) h (s .san) (s .subject)

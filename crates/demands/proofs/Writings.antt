@@ -1,5 +1,5 @@
 -- The writers do what request 4/13 says.
-use Prim.Native.Nat.{ℕ, _+_, _*_, _/_, _%_, _≤_, _<_}
+use Prim.Native.Nat.{ℕ, _*_, _/_, _%_, _≤_, _<_}
 use mathlib.Core.Path.{_≡_, refl, sym, ap, _∙_}
 use mathlib.Core.Logic.{_≢_, inl, inr}
 use mathlib.Core.Bool.{true, false}
@@ -19,9 +19,8 @@ use Rattle.rules.specs.Seen.{listed, sanInput, Sees, seenRecords}
 use Rattle.rules.specs.Writing.{Request, agree, Writer, asked, goodList, resultOf, refusal, fitted, writtenBy, bufferBy, Identifier, identifiers, idOfKind, goodIdentifier, nameFor, sanWriter, references, recordFor, fieldsHold, goodToWrite, recordWriter}
 use Rattle.rules.specs.declared.Written.{Written}
 use Rattle.rules.proofs.Cases.{by-cases, is-true, holds, and-left, and-right, clash}
-use Rattle.reading.specs.Views.{san-seen}
 use Rattle.reading.specs.Written.{texts-fit, is-good, says-it, long-320, run-length}
-use Rattle.demands.specs.Writing.{Good, writerAnswers, Writes, sanRequest, SanWriter, recordsRequest, RecordWriter}
+use Rattle.demands.specs.Writing.{Good, writerAnswers, WriterCalls, sanRequest, SanWriter, recordsRequest, RecordWriter}
 use Rattle.demands.proofs.Order.{Chosen, each-exactly}
 
 none-of : {A : Type 0} (l : List A) → some? l ≡ false → l ≡ []
@@ -136,8 +135,8 @@ module _ {Name : Type 0} (W : Writer Name) (q : Request) where
         rw (put z, length-append) (omega (arith, length-drop size old)))
         (λ e. rw (untouched (eqb-false (writtenBy W q (length old) .answer) 0 e)))
 
-  pub writes : Writes W q
-  writes = record {
+  pub calls : WriterCalls W q
+  calls = record {
     order = λ lent. each-exactly [] (writerAnswers W q lent) _ tt (answered lent);
     no-length = refused;
     untouched = untouched;
@@ -225,10 +224,9 @@ san-writes-back b l present (within, inl w) good lent room = (rw (← bytes) tak
 
 pub san-writer : SanWriter
 san-writer = record {
-  writes = writes sanWriter;
+  calls = calls sanWriter;
   present = san-present;
   reads-back = san-reads-back;
-  reads-only = λ q lent z x s. san-seen _ x s ∙ sym (san-seen _ _ (san-reads-back q lent z));
   asked-for = asked-for;
   writes-back = san-writes-back;
 }
@@ -290,13 +288,13 @@ module _ (q : Request) (lent : ℕ) (z : writtenBy recordWriter q lent .answer �
   unfolding goodRecords
   good-records = rw (has-bytes, eq-eqb (length (resultOf recordWriter q) % 320) 0 (omega (arith, size-is)), split-so) (records-good (asked recordWriter q) all-taken)
 
-  reads-back : referencesOf (resultOf recordWriter q) ≡ asked recordWriter q
+  says-asked : referencesOf (resultOf recordWriter q) ≡ asked recordWriter q
   unfolding referencesOf
-  reads-back = ap (map referenceOf) split-so ∙ records-say (asked recordWriter q) all-taken
+  says-asked = ap (map referenceOf) split-so ∙ records-say (asked recordWriter q) all-taken
 
-  seen : seenRecords (resultOf recordWriter q) ≡ listed (asked recordWriter q)
+  reads-back : seenRecords (resultOf recordWriter q) ≡ listed (asked recordWriter q)
   unfolding seenRecords
-  seen = rw (le-ltb 5120 (length (resultOf recordWriter q)) (answer .within), good-records, reads-back)
+  reads-back = rw (le-ltb 5120 (length (resultOf recordWriter q)) (answer .within), good-records, says-asked)
 
 references-asked : (l : List Reference) → asked recordWriter (recordsRequest l) ≡ l
 unfolding asked cut references run
@@ -306,9 +304,7 @@ references-asked (r ∷ l) =
 
 pub record-writer : RecordWriter
 record-writer = record {
-  writes = writes recordWriter;
+  calls = calls recordWriter;
   asked-for = references-asked;
-  good = λ q lent z. holds _ (good-records q lent z);
   reads-back = reads-back;
-  seen = seen;
 }

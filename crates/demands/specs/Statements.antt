@@ -345,10 +345,6 @@ pub record Kinds (l : Names) (r : Reference) (j : ℕ) : Type 0 where
       × T (soleCn (l .subject) (a .group)) × T (dnsMatches (r .domain) (a .value .content)))
 
 pub record Demand2 : Type 0 where
-  -- "a match exactly when some presented name matches some reference"
-  pub match :
-      (s : Inputs) (l : Names) → Read s l → ((k i : ℕ) → ¬ BreaksAt l k i)
-      → verdictOn s .answer ≡ 0 ↔ (i : ℕ) × (j : ℕ) × PairAt l i j
   -- "the pair reported is the first (lowest reference, then lowest name)"
   pub first :
       (s : Inputs) (l : Names) → Read s l → verdictOn s .answer ≡ 0
@@ -369,13 +365,18 @@ pub record Demand2 : Type 0 where
       (l : Names) (r : Reference) (j : ℕ) (m : MatchesAt l r j) → r .kind ≡ cnKind
       → (a : Member Attribute) × (getElem? (l .subject) j ≡ some a) × (m .presented .row .group ≡ a .group)
       × (getElem? (subjectInput .grammar .rows (l .subject)) j ≡ some (m .presented .row))
-  -- "An SRVName that breaks the issuer's SRVName restrictions refuses the certificate even if another name would match." 6/13: "Answer 2 in
-  -- demand 2 now covers both forms", and "All of them must hold."
-  pub broken : (s : Inputs) (l : Names) → Read s l → (k i : ℕ) → BreaksAt l k i → verdictOn s .answer ≡ 2
   -- what it means that a name breaks an issuer's constraints
   pub breaks : (string : List (Member GeneralName)) (name : GeneralName) → BreaksString string name
   -- 6/13: "prove that a wildcard dNSName that breaks no string matches no domain in an excluded dNSName subtree"
   pub kept-out : (strings : List (List (Member GeneralName))) (text subtree : List ℕ) → KeptOut strings text subtree
+  -- ---- consequences of demand 1, in the words of this one
+  -- "a match exactly when some presented name matches some reference"
+  pub match :
+      (s : Inputs) (l : Names) → Read s l → ((k i : ℕ) → ¬ BreaksAt l k i)
+      → verdictOn s .answer ≡ 0 ↔ (i : ℕ) × (j : ℕ) × PairAt l i j
+  -- "An SRVName that breaks the issuer's SRVName restrictions refuses the certificate even if another name would match." 6/13: "Answer 2 in
+  -- demand 2 now covers both forms", and "All of them must hold."
+  pub broken : (s : Inputs) (l : Names) → Read s l → (k i : ℕ) → BreaksAt l k i → verdictOn s .answer ≡ 2
 
 -- ==== Demand 3: "One reading." "The DER grammar is written down as how names are put into bytes, with no reader in it": that a
 -- grammar G writes a list as these bytes is `Writes G list bytes`.
@@ -436,4 +437,5 @@ pub record Demand3 : Type 0 where
       (s : Inputs) (strings : List (List ℕ)) (san : Seen GeneralName) (subject : Seen (Member Attribute)) (constraints : List (Seen (Member GeneralName)))
       → Strings s strings → Sees sanInput (s .san) san → Sees subjectInput (s .subject) subject → SeesEach strings constraints
       → outcomeOn s ≡ outcomeOf (seenRecords (s .references)) san subject (together constraints)
+  -- ---- a consequence of demand 1: lengths that cut no strings tell nothing else
   pub no-strings : (s : Inputs) → ((strings : List (List ℕ)) → ¬ Strings s strings) → verdictOn s ≡ numbers 7 0 0 0 0 0

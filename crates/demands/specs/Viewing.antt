@@ -1,6 +1,6 @@
 -- Request 3/13, the viewer, as statements about the very names that its contracts cite: `openingOn` and `viewOn`
 -- (crates/reading/specs/Calls.antt). Each field stands under the sentence that it says; proofs/Viewings.antt proves them all.
-use Prim.Native.Nat.{ℕ, _+_, _≤_, _<_}
+use Prim.Native.Nat.{ℕ, zero, suc, _+_, _≤_, _<_}
 use mathlib.Core.Path.{_≡_}
 use mathlib.Core.Logic.{_↔_, _≢_}
 use mathlib.Core.Option.{some}
@@ -8,8 +8,9 @@ use mathlib.Core.List.{List, [], _∷_}
 use lib.ListN.{length, getElem?}
 use lib.Dec.{T}
 use Rattle.rules.specs.Seen.{listed, Sees}
-use Rattle.rules.specs.Viewer.{openingAt, nthAt, nthSight}
+use Rattle.rules.specs.Viewer.{openingAt}
 use Rattle.rules.specs.declared.Row.{Row}
+use Rattle.rules.specs.declared.Sight.{Sight}
 use Rattle.rules.specs.declared.Sight.the-variants.{Name, End}
 use Rattle.rules.specs.declared.View.{View}
 use Rattle.reading.specs.Calls.{openingOn, viewOn}
@@ -38,6 +39,15 @@ pub record FirstFrom (at : ℕ) (rows : List Row) (r : Row) : Type 0 where
 -- no row starts at or past the position
 abbrev pub NoneFrom : ℕ → List Row → Type 0
 NoneFrom at rows = (j : ℕ) (q : Row) → getElem? rows j ≡ some q → q .start < at
+
+-- `step` is what a step from a position shows. Where a viewer stands after n steps:
+unfoldable pub nthAt : (ℕ → View) → ℕ → ℕ → ℕ
+nthAt step at zero = at
+nthAt step at (suc n) = nthAt step (step at .at) n
+
+-- what the n-th step shows, counted from 0
+unfoldable pub nthSight : (ℕ → View) → ℕ → ℕ → Sight
+nthSight step at n = step (nthAt step at n) .sight
 
 -- the viewer of the string S, of which the number is `which`
 pub record Viewing (which : ℕ) (S : CertificateString) : Type 0 where

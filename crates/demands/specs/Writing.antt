@@ -7,10 +7,9 @@ use mathlib.Core.List.{List, [], _∷_, _++_, map}
 use lib.ListN.{length, take, drop}
 use lib.Dec.{T}
 use Rattle.rules.specs.Bytes.{all, sum}
-use Rattle.rules.specs.Records.{Reference, goodRecords, referencesOf}
+use Rattle.rules.specs.Records.{Reference}
 use Rattle.rules.specs.Der.{run}
-use Rattle.rules.specs.San.{GeneralName}
-use Rattle.rules.specs.Seen.{Seen, listed, sanInput, Sees, seenRecords}
+use Rattle.rules.specs.Seen.{listed, sanInput, Sees, seenRecords}
 use Rattle.rules.specs.Writing.{Request, request, Writer, asked, resultOf, writtenBy, bufferBy, Identifier, goodIdentifier, nameFor, sanWriter, recordWriter}
 use Rattle.demands.specs.Statements.{Answer, when, EachExactly}
 
@@ -33,7 +32,7 @@ writerAnswers W q lent =
     ∷ when 0 Unit
     ∷ []
 
-pub record Writes {Name : Type 0} (W : Writer Name) (q : Request) : Type 0 where
+pub record WriterCalls {Name : Type 0} (W : Writer Name) (q : Request) : Type 0 where
   pub order : (lent : ℕ) → EachExactly [] (writerAnswers W q lent) (writtenBy W q lent .answer)
   -- "with length 0 and the buffer untouched"
   pub no-length : (lent : ℕ) → writtenBy W q lent .answer ≢ 0 → writtenBy W q lent .length ≡ 0
@@ -52,15 +51,13 @@ abbrev pub sanRequest : List Identifier → Request
 sanRequest l = request (map (λ i. i .kind) l) (map (λ i. length (i .text)) l) (run (λ i. i .text) l)
 
 pub record SanWriter : Type 0 where
-  pub writes : (q : Request) → Writes sanWriter q
-  -- "What is written reads back as that list": it is a present, readable SAN within its limit, and nothing else is seen of it
+  pub calls : (q : Request) → WriterCalls sanWriter q
+  -- "What is written reads back as that list": it is a present, readable SAN within its limit. Nothing else is seen of it: that is so
+  -- of every string (`one-seen` of Statements)
   pub present : (q : Request) → resultOf sanWriter q ≢ []
   pub reads-back :
       (q : Request) (lent : ℕ) → writtenBy sanWriter q lent .answer ≡ 0
       → Sees sanInput (resultOf sanWriter q) (listed (map nameFor (asked sanWriter q)))
-  pub reads-only :
-      (q : Request) (lent : ℕ) → writtenBy sanWriter q lent .answer ≡ 0
-      → (x : Seen GeneralName) → Sees sanInput (resultOf sanWriter q) x → x ≡ listed (map nameFor (asked sanWriter q))
   -- the list that is asked for is any list of names
   pub asked-for : (l : List Identifier) → asked sanWriter (sanRequest l) ≡ l
   -- "a present, readable SAN within its limit, made only of such names, writes back to the same bytes"
@@ -77,13 +74,10 @@ recordsRequest l =
     request (map (λ r. r .kind) l) (run (λ r. length (r .service) ∷ length (r .domain) ∷ []) l) (run (λ r. r .service ++ r .domain) l)
 
 pub record RecordWriter : Type 0 where
-  pub writes : (q : Request) → Writes recordWriter q
+  pub calls : (q : Request) → WriterCalls recordWriter q
   -- the list that is asked for is any list of references
   pub asked-for : (l : List Reference) → asked recordWriter (recordsRequest l) ≡ l
-  -- "What is written reads back as that list"
-  pub good : (q : Request) (lent : ℕ) → writtenBy recordWriter q lent .answer ≡ 0 → T (goodRecords (resultOf recordWriter q))
+  -- "What is written reads back as that list": it is within its limit, its records are good, and they say that list
   pub reads-back :
-      (q : Request) (lent : ℕ) → writtenBy recordWriter q lent .answer ≡ 0 → referencesOf (resultOf recordWriter q) ≡ asked recordWriter q
-  pub seen :
       (q : Request) (lent : ℕ) → writtenBy recordWriter q lent .answer ≡ 0
       → seenRecords (resultOf recordWriter q) ≡ listed (asked recordWriter q)

@@ -1,16 +1,12 @@
 -- What is read from the part of a slice from `at` to `end`, as places in the slice.
-use Prim.Native.Nat.{ℕ, _+_, _-_}
+use Prim.Native.Nat.{ℕ, _-_}
 use mathlib.Core.List.{List}
-use mathlib.Core.Bool.{Bool, true, false, cond, not}
-use mathlib.Core.Option.{Option, none, some}
+use mathlib.Core.Bool.{Bool, true, false, cond}
 use lib.Dec.{eqb}
 use lib.ListN.{length}
 use lib.Seq.{slice}
 use Rattle.rules.specs.Der.{goodTag}
-use Rattle.rules.specs.San.{GeneralName, plain, other, nameKind}
-use Rattle.rules.specs.Subject.{Attribute, attributeKind}
-use Rattle.reading.specs.Reader.{Refusal, truncated, badLength, Front, got, refused, Raw, raw, contentAfter, readElement, tagged, alone}
-use Rattle.reading.specs.Strings.{readOther, nameOf, readName, readAttribute, readSubtree}
+use Rattle.reading.specs.Reader.{truncated, badLength, Front, got, refused, Raw, contentAfter, readElement}
 use Rattle.der.specs.declared.Element.{Element}
 use Rattle.der.specs.declared.Element.the-variants.{Found, Truncated, BadLength, BadTag}
 

@@ -1,18 +1,18 @@
 -- An element that is found says what was read, as parts of the slice.
 use Prim.Native.Nat.{ℕ, _+_, _-_, _≤_, _<_}
 use mathlib.Core.Path.{_≡_, refl, sym, ap, _∙_}
-use mathlib.Core.Bool.{Bool, true, false, cond, not}
+use mathlib.Core.Bool.{Bool, true, false}
 use mathlib.Core.Option.{Option, none, some}
 use mathlib.Core.List.{List, [], _∷_, _++_, append-assoc}
 use native.Mathlib.Omega.{arith}
 use lib.ListN.{length, take, drop, length-append}
-use lib.Dec.{T, eqb, eqb→eq}
+use lib.Dec.{eqb}
 use lib.Seq.{slice, slice-empty, slice-cons, length-slice, drop-drop, drop-at, take-at, take-take}
-use borrow.Author.Tests.{eqb-true, eqb-false, eq-eqb, ne-eqb}
+use borrow.Author.Tests.{eqb-true}
 use Rattle.octets.proofs.Parts.{take-of-drop}
-use Rattle.rules.specs.Der.{lengthBytes, element, goodTag}
+use Rattle.rules.specs.Der.{lengthBytes, goodTag}
 use Rattle.rules.specs.San.{goodValue, sealed}
-use Rattle.reading.specs.Reader.{then, when, Refusal, truncated, badLength, Front, got, refused, thenF, at-end, Raw, raw, writeRaw, readElement, tagged, alone, two}
+use Rattle.reading.specs.Reader.{then, truncated, badLength, Front, got, refused, thenF, at-end, Raw, raw, writeRaw, readElement, tagged, alone, two}
 use Rattle.reading.specs.Strings.{readValue}
 use Rattle.reading.specs.Element.{element-sound, element-append}
 use Rattle.der.specs.Places.{placeElement, elementAt, tagFits, taggedAt, valueAt, found?}

@@ -13,7 +13,7 @@ use Rattle.rules.specs.Seen.{Seen, tooLong, unreadable, listed, Input, sanInput
 use Rattle.rules.specs.Listing.{rowsSeen}
 use Rattle.rules.specs.declared.Row.{Row}
 use Rattle.reading.specs.Strings.{readSan, readSubject, readConstraints}
-use Rattle.reading.specs.OneReading.{OneReading, san-reading, subject-reading, constraints-reading}
+use Rattle.reading.specs.OneReading.{ReadsExactly, san-reading, subject-reading, constraints-reading}
 use Rattle.reading.specs.Views.{absent, listedOr, seenOf, seenSan, seenSubject, seenConstraints}
 use Rattle.reading.specs.Calls.{refusalOf, seenRows}
 use Rattle.strings.specs.Counts.{placeCount}
@@ -126,7 +126,7 @@ data Counted : Seen Row → Count → Type 0 where
   no-list : Counted unreadable Unreadable
   rows-of : (rows : List Row) → Counted (listed rows) (Of (length rows))
 
-module _ {Name : Type 0} (I : Input Name) (read : List ℕ → Option (List Name)) (R : OneReading (I .grammar) read) (s : List ℕ) where
+module _ {Name : Type 0} (I : Input Name) (read : List ℕ → Option (List Name)) (R : ReadsExactly (I .grammar) read) (s : List ℕ) where
   string-long : I .limit < length s → rowsSeen (I .grammar) (seenOf I read s) ≡ tooLong
   unfolding seenOf rowsSeen
   string-long h = rw (lt-ltb _ _ h)

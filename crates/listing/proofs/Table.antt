@@ -12,7 +12,7 @@ use Rattle.rules.specs.Seen.{Seen, tooLong, unreadable, listed, Input, sanInput
 use Rattle.rules.specs.Listing.{rowsSeen, listedOf, tableAfter}
 use Rattle.rules.specs.declared.Row.{Row}
 use Rattle.reading.specs.Strings.{readSan, readSubject, readConstraints}
-use Rattle.reading.specs.OneReading.{OneReading, san-reading, subject-reading, constraints-reading}
+use Rattle.reading.specs.OneReading.{ReadsExactly, san-reading, subject-reading, constraints-reading}
 use Rattle.reading.specs.Views.{absent, listedOr, seenOf, seenSan, seenSubject, seenConstraints}
 use Rattle.reading.specs.Calls.{refusalOf, seenRows, listingOn, tableOn}
 use Rattle.steps.specs.Walks.{rowsBy, walk-rows, san-walk}
@@ -27,7 +27,7 @@ no-rows [] e = refl
 no-rows (a ∷ l) e = absurd (omega arith)
 
 -- the steps of a string show the rows of what is seen of it
-module _ {Name : Type 0} (I : Input Name) (read : List ℕ → Option (List Name)) (R : OneReading (I .grammar) read) (which : ℕ) (s : List ℕ)
+module _ {Name : Type 0} (I : Input Name) (read : List ℕ → Option (List Name)) (R : ReadsExactly (I .grammar) read) (which : ℕ) (s : List ℕ)
     (reads : (l : List Name) → read s ≡ some l → rowsBy (stepOf which s) (length l) (firstOf which s) ≡ I .grammar .rows l) where
   seen-shown : {rows : List Row} → rowsSeen (I .grammar) (seenOf I read s) ≡ listed rows → rowsBy (stepOf which s) (length rows) (firstOf which s) ≡ rows
   unfolding seenOf rowsSeen rowsBy

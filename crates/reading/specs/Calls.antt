@@ -11,7 +11,7 @@ use Rattle.rules.specs.San.{GeneralName, sanGrammar}
 use Rattle.rules.specs.Subject.{subjectGrammar}
 use Rattle.rules.specs.Constraints.{constraintsGrammar}
 use Rattle.rules.specs.Seen.{Seen, tooLong, stringsBy, together, seenRecords}
-use Rattle.rules.specs.Verdict.{outcomeOf, numbersOf, witnessPart, witnessText, witnessPlace}
+use Rattle.rules.specs.Verdict.{outcomeOf, verdictOf, witnessPart, witnessText, witnessPlace}
 use Rattle.rules.specs.Listing.{rowsSeen, listedOf, tableAfter}
 use Rattle.rules.specs.Viewer.{viewOf, openingOf}
 use Rattle.rules.specs.declared.Row.{Row}
@@ -52,7 +52,8 @@ outcomeOn i =
 
 -- its numbers
 unfoldable pub verdictOn : Inputs → Verdict
-verdictOn i = numbersOf (outcomeOn i)
+verdictOn i =
+    verdictOf (seenRecords (i .references)) (seenSan (i .san)) (seenSubject (i .subject)) (seenIssuers (i .lengths) (i .constraints))
 
 -- the witness's text; where it lies in its string; and where in memory, by where the SAN and the subject lie
 unfoldable pub witnessTextOn : Inputs → List ℕ

@@ -1,16 +1,16 @@
 -- A reader of what a grammar writes: said once, for every value, and put together from parts.
-use Prim.Native.Nat.{ℕ, zero, suc, _+_, _-_, _≤_, _<_}
-use mathlib.Core.Path.{_≡_, refl, sym, _∙_}
-use mathlib.Core.Bool.{Bool, true, false, _&&_}
-use mathlib.Core.Option.{Option, none, some}
+use Prim.Native.Nat.{ℕ, zero, suc, _+_, _-_, _≤_}
+use mathlib.Core.Path.{_≡_, refl, _∙_}
+use mathlib.Core.Bool.{Bool, _&&_}
+use mathlib.Core.Option.{Option, some}
 use mathlib.Core.List.{List, [], _∷_, _++_, append-nil}
 use native.Mathlib.Omega.{arith}
 use lib.ListN.{length, length-append}
 use lib.Dec.{T, eqb, leb, eqb→eq, leb→le}
 use borrow.Author.Tests.{eq-eqb, le-leb}
 use Rattle.rules.specs.Bytes.{all}
-use Rattle.rules.specs.Der.{element, run, Group}
-use Rattle.reading.specs.Reader.{then, when, Front, got, refused, thenF, at-end, Raw, raw, writeRaw, readElement, asIs, also, via, tagged, numberedBy, alone, two, readItems, items}
+use Rattle.rules.specs.Der.{run}
+use Rattle.reading.specs.Reader.{then, got, Raw, raw, writeRaw, readElement, asIs, also, via, tagged, numberedBy, alone, two, readItems, items}
 use Rattle.reading.specs.Answers.{no-some, then-some, when-some, thenF-some, at-end-some, and-parts, both, is-true}
 use Rattle.reading.specs.Element.{element-append, element-complete, element-sound}
 

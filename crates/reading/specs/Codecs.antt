@@ -1,8 +1,8 @@
 -- Each string's reader reads exactly what its grammar writes: `sanC`, `subjectC`, `constraintsC`.
 use Prim.Native.Nat.{ℕ, suc, _+_}
-use mathlib.Core.Path.{_≡_, refl, sym, ap, _∙_}
-use mathlib.Core.Bool.{Bool, true, false, cond, _&&_}
-use mathlib.Core.Option.{Option, none, some}
+use mathlib.Core.Path.{_≡_, refl, sym, ap}
+use mathlib.Core.Bool.{Bool, true, false, _&&_}
+use mathlib.Core.Option.{some}
 use mathlib.Core.List.{List, [], _∷_, _++_, map}
 use native.Mathlib.Omega.{arith}
 use lib.Dec.{T, eqb, ltb, lt→ltb, eqb→eq}
@@ -12,7 +12,7 @@ use Rattle.rules.specs.Der.{element, run, Member, Group, groups}
 use Rattle.rules.specs.San.{GeneralName, plain, other, goodOid, goodValue, tagOf, contentOf, writeName, goodName, sanGrammar}
 use Rattle.rules.specs.Subject.{Attribute, writeAttribute, goodAttribute, writeSet, goodSet, numbered, subjectGrammar}
 use Rattle.rules.specs.Constraints.{goodRestriction, goodSubtree, writeSubtree, writeSide, goodSide, constraintsGrammar}
-use Rattle.reading.specs.Reader.{then, Raw, raw, writeRaw}
+use Rattle.reading.specs.Reader.{Raw, raw, writeRaw}
 use Rattle.reading.specs.Strings.{readOid, readValue, readOther, nameOf, readName, readSan, flat, numberFrom, readAttribute, inOrder, readSet, readSets, readSubject, readSubtree, readSide, rising, readSides, readConstraints}
 use Rattle.reading.specs.Answers.{then-some, when-some, and-parts, both, is-true, all-weaken, all-both}
 use Rattle.reading.specs.Codec.{Codec, alsoC, taggedC, aloneC, asIsC, viaC, writtenC, numberedByC, twoC, itemsC}

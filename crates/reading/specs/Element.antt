@@ -1,14 +1,14 @@
 -- A length and an element are read exactly where they are written.
-use Prim.Native.Nat.{ℕ, suc, _+_, _*_, _/_, _%_, _≤_, _<_}
+use Prim.Native.Nat.{ℕ, _+_, _*_, _/_, _%_, _≤_, _<_}
 use mathlib.Core.Path.{_≡_, refl, ap}
-use mathlib.Core.Bool.{Bool, true, false, cond, _&&_}
+use mathlib.Core.Bool.{Bool, true, false, _&&_}
 use mathlib.Core.List.{List, [], _∷_, _++_, append-assoc}
 use native.Mathlib.Omega.{arith}
 use native.Mathlib.Nat.{div-add-mod'}
 use borrow.Author.Tests.{lt-ltb, le-ltb, le-leb, ltb-false, eqb-true}
 use lib.ListN.{length, take, drop, length-append, take-append-drop}
 use lib.Seq.{take-at, drop-at, length-take-le}
-use lib.Dec.{T, ltb, leb, eqb, ltb→lt, leb→le, eqb→eq}
+use lib.Dec.{ltb, leb, eqb, ltb→lt, leb→le, eqb→eq}
 use Rattle.rules.specs.Der.{lengthBytes, element, header}
 use Rattle.reading.specs.Reader.{Front, got, refused, long1, long2, readLength, Raw, raw, writeRaw, contentAfter, readElement}
 use Rattle.reading.specs.Answers.{no-got, shortest-got, enough-got, and-parts}

@@ -1,16 +1,15 @@
 -- A list of names and its groups: each is told from the other.
-use Prim.Native.Nat.{ℕ, suc, _+_, _<_}
+use Prim.Native.Nat.{ℕ, suc}
 use mathlib.Core.Path.{_≡_, refl, sym, ap, _∙_}
-use mathlib.Core.Bool.{Bool, true, false, cond, _&&_}
+use mathlib.Core.Bool.{Bool, true, false}
 use mathlib.Core.List.{List, [], _∷_, _++_, map}
 use native.Mathlib.Omega.{arith}
-use lib.ListN.{length}
 use lib.Dec.{T, ltb, eqb, ltb→lt}
 use borrow.Author.Tests.{eq-eqb, ne-eqb, eqb-true}
 use Rattle.rules.specs.Bytes.{some?, all, chain}
 use Rattle.rules.specs.Der.{Member, Group, push, groups}
 use Rattle.reading.specs.Strings.{flat, numberFrom, rising}
-use Rattle.reading.specs.Answers.{and-parts, both}
+use Rattle.reading.specs.Answers.{and-parts}
 
 module _ {A : Type 0} where
   -- the names of one group

@@ -4,12 +4,11 @@ use Prim.Native.Nat.{ℕ, suc, _+_}
 use mathlib.Core.Path.{_≡_, refl, sym, ap, _∙_}
 use mathlib.Core.Logic.{_↔_, _⊎_, inl, inr}
 use mathlib.Core.Option.{Option, none, some}
-use mathlib.Core.List.{List, [], _∷_, _++_, map}
+use mathlib.Core.List.{List, [], _∷_}
 use lib.ListN.{length, length-append}
-use lib.Dec.{T}
 use Rattle.rules.specs.Der.{Member, Group, groups, header, run, rowsOfMembers, rowsOfGroups, Grammar, Writes}
 use Rattle.rules.specs.San.{GeneralName, rowsOfNames, writeName, sanGrammar}
-use Rattle.rules.specs.Subject.{Attribute, writeAttribute, attributeRow, subjectGrammar}
+use Rattle.rules.specs.Subject.{writeAttribute, attributeRow, subjectGrammar}
 use Rattle.rules.specs.Constraints.{writeSubtree, subtreeRow, constraintsGrammar}
 use Rattle.rules.specs.declared.Row.{Row}
 use Rattle.reading.specs.Reader.{readElement}
@@ -20,7 +19,7 @@ use Rattle.reading.specs.Groups.{members, flat-groups}
 use Rattle.reading.specs.Codecs.{sanC, subjectC, constraintsC}
 
 -- the bytes have one reading
-pub record OneReading {Name : Type 0} (G : Grammar Name) (read : List ℕ → Option (List Name)) : Type 0 where
+pub record ReadsExactly {Name : Type 0} (G : Grammar Name) (read : List ℕ → Option (List Name)) : Type 0 where
   -- bytes are read as a list exactly where the grammar writes that list as those bytes
   pub exactly : (b : List ℕ) (l : List Name) → (read b ≡ some l) ↔ Writes G l b
   -- of all bytes: some list is written so, or none is
@@ -48,7 +47,7 @@ module _ {Name : Type 0} (G : Grammar Name) {read : List ℕ → Option (List Na
       go none e = inr (λ l w. no-some (rw e at (reads b l .1 w)))
       go (some l) e = inl (l, reads b l .0 e)
 
-  one-reading : read [] ≡ none → ((l : List Name) → length (G .rows l) ≡ length l) → OneReading G read
+  one-reading : read [] ≡ none → ((l : List Name) → length (G .rows l) ≡ length l) → ReadsExactly G read
   one-reading empty count = record {
     exactly = reads;
     decided = read-or-not;
@@ -83,14 +82,14 @@ module _ {A : Type 0} (write : A → List ℕ) (row : ℕ → ℕ → A → Row)
 
 -- ---- the three strings
 
-pub san-reading : OneReading sanGrammar readSan
+pub san-reading : ReadsExactly sanGrammar readSan
 unfolding readSan readElement
 san-reading = one-reading sanGrammar sanC refl (λ l. names-count _ 0 l)
 
-pub subject-reading : OneReading subjectGrammar readSubject
+pub subject-reading : ReadsExactly subjectGrammar readSubject
 unfolding readSubject readSets readElement
 subject-reading = one-reading subjectGrammar subjectC refl (λ l. groups-count writeAttribute attributeRow _ l)
 
-pub constraints-reading : OneReading constraintsGrammar readConstraints
+pub constraints-reading : ReadsExactly constraintsGrammar readConstraints
 unfolding readConstraints readSides readElement
 constraints-reading = one-reading constraintsGrammar constraintsC refl (λ l. groups-count writeSubtree subtreeRow _ l)

@@ -1,13 +1,12 @@
 -- A run of elements as a loop meets it: at its end, at an element that is refused, at one that is read.
-use Prim.Native.Nat.{ℕ, zero, suc, _+_, _≤_, _<_}
-use mathlib.Core.Path.{_≡_, refl, sym, _∙_}
-use mathlib.Core.Bool.{Bool, true, false}
+use Prim.Native.Nat.{ℕ, zero, suc, _≤_, _<_}
+use mathlib.Core.Path.{_≡_, refl, _∙_}
 use mathlib.Core.Option.{Option, none, some}
-use mathlib.Core.List.{List, [], _∷_, _++_}
+use mathlib.Core.List.{List, [], _∷_}
 use native.Mathlib.Omega.{arith}
 use lib.ListN.{length, length-append}
 use Rattle.rules.specs.Bytes.{some?}
-use Rattle.reading.specs.Reader.{then, Front, got, refused, thenF, Raw, writeRaw, readElement, asIs, also, readItems, items}
+use Rattle.reading.specs.Reader.{then, Front, got, refused, thenF, Raw, readElement, asIs, also, readItems, items}
 use Rattle.reading.specs.Answers.{no-some, then-some, thenF-some}
 use Rattle.reading.specs.Element.{element-sound, element-append}
 

@@ -1,8 +1,8 @@
 -- What is seen of a certificate string, as a function of its bytes: the relation `Sees` of the rules holds of it, and of
 -- nothing else. Proved once, and used at the three strings.
-use Prim.Native.Nat.{ℕ, _≤_, _<_}
+use Prim.Native.Nat.{ℕ}
 use mathlib.Core.Path.{_≡_, refl, sym, ap, _∙_}
-use mathlib.Core.Logic.{_⊎_, inl, inr}
+use mathlib.Core.Logic.{inl, inr}
 use mathlib.Core.Bool.{Bool, true, false, cond, not, _&&_}
 use mathlib.Core.Option.{Option, none, some}
 use mathlib.Core.List.{List, [], _∷_}
@@ -11,13 +11,13 @@ use lib.ListN.{length}
 use lib.Dec.{T, ltb}
 use borrow.Author.Tests.{ltb-true, ltb-false}
 use Rattle.rules.specs.Bytes.{some?}
-use Rattle.rules.specs.Der.{Member, Grammar, Writes}
+use Rattle.rules.specs.Der.{Member}
 use Rattle.rules.specs.San.{GeneralName}
 use Rattle.rules.specs.Subject.{Attribute}
 use Rattle.rules.specs.Seen.{Seen, tooLong, unreadable, listed, Input, sanInput, subjectInput, constraintsInput, Reads, Sees}
 use Rattle.reading.specs.Strings.{readSan, readSubject, readConstraints}
 use Rattle.reading.specs.Answers.{no-some}
-use Rattle.reading.specs.OneReading.{OneReading, san-reading, subject-reading, constraints-reading}
+use Rattle.reading.specs.OneReading.{ReadsExactly, san-reading, subject-reading, constraints-reading}
 
 -- a string that may be absent, and is
 abbrev pub absent : {Name : Type 0} → Input Name → List ℕ → Bool
@@ -31,7 +31,7 @@ listedOr (some l) = listed l
 unfoldable pub seenOf : {Name : Type 0} → Input Name → (List ℕ → Option (List Name)) → List ℕ → Seen Name
 seenOf I read b = cond (ltb (I .limit) (length b)) tooLong (cond (absent I b) (listed []) (listedOr (read b)))
 
-module _ {Name : Type 0} (I : Input Name) (read : List ℕ → Option (List Name)) (R : OneReading (I .grammar) read) where
+module _ {Name : Type 0} (I : Input Name) (read : List ℕ → Option (List Name)) (R : ReadsExactly (I .grammar) read) where
   -- an absent string is its empty list, and no list is written so
   no-bytes : (b : List ℕ) → absent I b ≡ true → T (I .optional) × (b ≡ [])
   no-bytes b e = go (I .optional) b e

@@ -366,9 +366,9 @@ view x at numbers =
     let n = Viewer.viewNumbers (Viewer.viewOf x at) in
     written (n .shown ∷ n .kind ∷ n .start ∷ n .length ∷ n .group ∷ n .at ∷ []) numbers
 
--- the positions after so many steps from an opening
-abbrev paged : List Row → List ℕ → List ℕ → Example
-paged rows steps positions = written (map (Viewer.nthAt (Viewer.viewOf (listed rows)) Viewer.openingAt) steps) positions
+-- the positions after a step from each of these
+abbrev stepped : List Row → List ℕ → List ℕ → Example
+stepped rows positions next = written (map (λ at. Viewer.viewOf (listed rows) at .at) positions) next
 
 -- "Opening unreadable bytes is refused with 3, 4 or 5, over-long ones with 7, in 01's order."
 abbrev openings : List Example
@@ -399,13 +399,13 @@ views =
     ∷ view unreadable 3 (0 ∷ 0 ∷ 0 ∷ 0 ∷ 0 ∷ 3 ∷ [])
     ∷ view (listed []) 0 (0 ∷ 0 ∷ 0 ∷ 0 ∷ 0 ∷ 0 ∷ [])
     -- "After a row the position stands just past its element.", be it the header of a set or of a side
-    ∷ paged (Certificates.twoEntries .rows) (0 ∷ 1 ∷ 2 ∷ 3 ∷ []) (0 ∷ 7 ∷ 12 ∷ 12 ∷ [])
-    ∷ paged (Certificates.threeAttributes .rows) (1 ∷ 2 ∷ 3 ∷ 4 ∷ []) (14 ∷ 26 ∷ 38 ∷ 38 ∷ [])
-    ∷ paged (Certificates.threeSubtrees .rows) (1 ∷ 2 ∷ 3 ∷ 4 ∷ []) (24 ∷ 33 ∷ 52 ∷ 52 ∷ [])
+    ∷ stepped (Certificates.twoEntries .rows) (Viewer.openingAt ∷ 7 ∷ 12 ∷ []) (7 ∷ 12 ∷ 12 ∷ [])
+    ∷ stepped (Certificates.threeAttributes .rows) (Viewer.openingAt ∷ 14 ∷ 26 ∷ 38 ∷ []) (14 ∷ 26 ∷ 38 ∷ 38 ∷ [])
+    ∷ stepped (Certificates.threeSubtrees .rows) (Viewer.openingAt ∷ 24 ∷ 33 ∷ 52 ∷ []) (24 ∷ 33 ∷ 52 ∷ 52 ∷ [])
     ∷ []
 
 pub viewer : All (openings ++ views)
-unfolding same upTo ascii begins before after Names.letter Names.digit Names.letterDigitHyphen Names.ldh Names.label Names.longer Names.labels Names.lastOf Names.domain Names.dnsRestriction Names.service Names.serviceOf Names.domainOf Names.srvId Names.restriction Der.lengthBytes Der.element Der.header Der.run Der.push Der.groups Der.rowsOfMembers Der.rowsOfGroups San.tagOf San.contentOf San.writeName San.sealed San.goodValue San.goodSrvName San.goodName San.nameKind San.rowsOfNames Subject.writeAttribute Subject.goodAttribute Subject.writeSet Subject.goodSet Subject.numbered Subject.isCn Subject.attributeKind Subject.attributeRow Constraints.goodRestriction Constraints.goodSubtree Constraints.writeSubtree Constraints.writeSide Constraints.goodSide Constraints.subtreeRow Viewer.rowFrom Viewer.rowOrEnd Viewer.viewOf Viewer.openingOf Viewer.nthAt Viewer.numbersAt Viewer.viewNumbers
+unfolding same upTo ascii begins before after Names.letter Names.digit Names.letterDigitHyphen Names.ldh Names.label Names.longer Names.labels Names.lastOf Names.domain Names.dnsRestriction Names.service Names.serviceOf Names.domainOf Names.srvId Names.restriction Der.lengthBytes Der.element Der.header Der.run Der.push Der.groups Der.rowsOfMembers Der.rowsOfGroups San.tagOf San.contentOf San.writeName San.sealed San.goodValue San.goodSrvName San.goodName San.nameKind San.rowsOfNames Subject.writeAttribute Subject.goodAttribute Subject.writeSet Subject.goodSet Subject.numbered Subject.isCn Subject.attributeKind Subject.attributeRow Constraints.goodRestriction Constraints.goodSubtree Constraints.writeSubtree Constraints.writeSide Constraints.goodSide Constraints.subtreeRow Viewer.rowFrom Viewer.rowOrEnd Viewer.viewOf Viewer.openingOf Viewer.numbersAt Viewer.viewNumbers
 viewer = all-hold (openings ++ views) tt
 
 -- ---- "Longest inputs, in bytes: SAN 16,384; subject 4,096; constraints 16,384; references 5,120. One byte more is answer 7."

@@ -81,8 +81,8 @@ EachListed (b ∷ bs) [] = ⊥
 EachListed (b ∷ bs) (l ∷ ls) = Sees constraintsInput b (listed l) × EachListed bs ls
 
 -- the verdict on a certificate, by its lists
-abbrev pub verdictOn : Certificate → Verdict
-verdictOn c = verdictOf (seenRecords (c .references)) (listed (c .sanNames)) (listed (c .subjectNames)) (together (map listed (c .constraintsNames)))
+abbrev pub certificateVerdict : Certificate → Verdict
+certificateVerdict c = verdictOf (seenRecords (c .references)) (listed (c .sanNames)) (listed (c .subjectNames)) (together (map listed (c .constraintsNames)))
 
 abbrev pub Holds : Example → Type 0
 Holds (subtree restricted name inside) = T (restriction restricted) × T (srvId name) × (inSubtree restricted name ≡ inside)
@@ -94,7 +94,7 @@ Holds (verdict c) =
     Sees sanInput (c .san) (listed (c .sanNames))
     × Sees subjectInput (c .subject) (listed (c .subjectNames))
     × EachListed (c .constraints) (c .constraintsNames)
-    × (verdictOn c ≡ c .numbers)
+    × (certificateVerdict c ≡ c .numbers)
 Holds (refused references san subject constraints answer) = verdictOf references san subject constraints ≡ numbers answer 0 0 0 0 0
 Holds (sanRows r) = HasRows sanInput r
 Holds (subjectRows r) = HasRows subjectInput r

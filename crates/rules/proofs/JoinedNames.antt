@@ -1,5 +1,5 @@
 -- Domains, DNS-IDs, SRV-IDs and restrictions taken apart and put together.
-use Prim.Native.Nat.{ℕ, suc, _+_, _-_, _≤_}
+use Prim.Native.Nat.{ℕ, suc, _-_, _≤_}
 use mathlib.Core.Path.{_≡_, refl, sym, ap, _∙_}
 use mathlib.Core.Bool.{true, false, not, _&&_, or-true}
 use mathlib.Core.Logic.{_⊎_, _≢_, inl, inr}

@@ -17,7 +17,7 @@ use Rattle.rules.specs.declared.Row.{Row}
 use Rattle.rules.specs.declared.Listed.{Listed}
 use Rattle.rules.specs.declared.Verdict.{Verdict}
 use Rattle.rules.proofs.Cases.{and-parts}
-use Rattle.rules.proofs.Holds.{Certificate, Rows, Listing, Example, subtree, dnsName, noDnsId, tested, written, verdict, refused, sanRows, subjectRows, constraintsRows, listing, HasRows, EachListed, verdictOn, Holds, All}
+use Rattle.rules.proofs.Holds.{Certificate, Rows, Listing, Example, subtree, dnsName, noDnsId, tested, written, verdict, refused, sanRows, subjectRows, constraintsRows, listing, HasRows, EachListed, certificateVerdict, Holds, All}
 
 -- ---- equalities, tested
 
@@ -160,7 +160,7 @@ seen c =
     && (seenAs subjectInput (c .subject) (c .subjectNames) && seenEach (c .constraints) (c .constraintsNames))
 
 abbrev pub judgedRight : Certificate → Bool
-judgedRight c = sameVerdict (verdictOn c) (c .numbers)
+judgedRight c = sameVerdict (certificateVerdict c) (c .numbers)
 
 abbrev pub rowsRight : {Name : Type 0} → Input Name → Rows Name → Bool
 rowsRight I r = seenAs I (r .bytes) (r .names) && sameRows (I .grammar .rows (r .names)) (r .rows)
@@ -214,7 +214,7 @@ holds (verdict c) h =
       sees sanInput (c .san) (c .sanNames) (q .0),
       sees subjectInput (c .subject) (c .subjectNames) (r .0),
       sees-each (c .constraints) (c .constraintsNames) (r .1),
-      verdict-is (verdictOn c) (c .numbers) (p .1),
+      verdict-is (certificateVerdict c) (c .numbers) (p .1),
     )
 
 pub all-hold : (table : List Example) → T (all passes table) → All table

@@ -1,5 +1,5 @@
 -- The viewer: how a string opens, and what each step shows from a position. Request 3/13.
-use Prim.Native.Nat.{ℕ, zero, suc, _+_}
+use Prim.Native.Nat.{ℕ, _+_}
 use mathlib.Core.Option.{Option, none, some}
 use mathlib.Core.List.{List}
 use lib.Dec.{leb}
@@ -42,17 +42,6 @@ openingOf refusal (listed rows) = accepted
 -- "It opens at position 0, refused or not"
 abbrev pub openingAt : ℕ
 openingAt = 0
-
--- ---- step after step: `step` is what a step from a position shows
-
--- where a viewer stands after n steps from a position
-unfoldable pub nthAt : (ℕ → View) → ℕ → ℕ → ℕ
-nthAt step at zero = at
-nthAt step at (suc n) = nthAt step (step at .at) n
-
--- what the n-th step shows, counted from 0
-unfoldable pub nthSight : (ℕ → View) → ℕ → ℕ → Sight
-nthSight step at n = step (nthAt step at n) .sight
 
 -- ---- a step's six numbers
 

@@ -1,6 +1,6 @@
 -- The writers of SAN values and of reference records: which lists they take, what they write, what they answer, and the lent buffer
 -- afterwards. Request 4/13.
-use Prim.Native.Nat.{ℕ, _+_, _-_, _*_}
+use Prim.Native.Nat.{ℕ, _-_, _*_}
 use mathlib.Core.Bool.{Bool, false, cond, _&&_}
 use mathlib.Core.List.{List, [], _∷_, _++_, map}
 use lib.ListN.{length, drop, replicate}

@@ -1,11 +1,10 @@
 -- What the steps return, by their own tests.
-use Prim.Native.Nat.{ℕ, suc, _+_, _-_, _%_, _≤_, _<_}
+use Prim.Native.Nat.{ℕ, _+_, _%_, _≤_, _<_}
 use mathlib.Core.Path.{_≡_, refl, sym, ap, _∙_}
-use mathlib.Core.Bool.{Bool, true, false, cond}
+use mathlib.Core.Bool.{false}
 use mathlib.Core.List.{List}
 use native.Mathlib.Omega.{arith}
 use lib.ListN.{length}
-use lib.Dec.{ltb}
 use borrow.Author.Tests.{lt-ltb, le-ltb, eq-eqb, ne-eqb}
 use Rattle.der.specs.Places.{elementAt, taggedAt, found?}
 use Rattle.der.specs.declared.Element.{Element}
@@ -13,7 +12,7 @@ use Rattle.der.specs.declared.Element.the-variants.{Found, Truncated, BadLength
 use Rattle.entries.specs.Entries.{nameAt, attributeAt, subtreeAt}
 use Rattle.entries.specs.declared.Name.{Name}
 use Rattle.entries.specs.declared.Name.the-variants.{Is, Malformed}
-use Rattle.steps.specs.Steps.{stopped, nextGroup, cursor, shown, orElse, orStop, inside, sanStart, sanEntry, sanStep, setOpened, attributeNext, subjectStart, subjectEntry, subjectStep, sideOpened, subtreeNext, constraintsStart, constraintsEntry, constraintsStep}
+use Rattle.steps.specs.Steps.{stopped, nextGroup, cursor, shown, orElse, inside, sanStart, sanEntry, sanStep, setOpened, attributeNext, subjectStart, subjectEntry, subjectStep, sideOpened, subtreeNext, constraintsStart, constraintsEntry, constraintsStep}
 use Rattle.steps.specs.declared.Cursor.{Cursor}
 use Rattle.steps.specs.declared.Step.{Step}
 

@@ -1,22 +1,22 @@
 -- Walks over lists of names that stand in groups: `subject-walk`, `constraints-walk`.
 use Prim.Native.Nat.{ℕ, suc, _+_, _-_, _%_, _≤_, _<_}
 use mathlib.Core.Path.{_≡_, refl, sym, ap, subst, subst₂, _∙_}
-use mathlib.Core.Bool.{Bool, true, false, cond, _&&_}
-use mathlib.Core.Option.{Option, none, some}
+use mathlib.Core.Bool.{Bool, true, false, _&&_}
+use mathlib.Core.Option.{Option, some}
 use mathlib.Core.List.{List, [], _∷_, _++_, map}
 use native.Mathlib.Omega.{arith}
 use native.Mathlib.Numerals.{add-one}
-use lib.ListN.{length, length-append}
-use lib.Dec.{T, eqb, ltb, ltb→lt, eqb→eq}
+use lib.ListN.{length}
+use lib.Dec.{T, eqb, ltb→lt}
 use lib.Seq.{slice, slice-empty, length-slice}
 use borrow.Author.Tests.{lt-ltb, le-ltb, eq-eqb, ne-eqb, eqb-true, eqb-false}
 use Rattle.rules.specs.Bytes.{some?, all, chain}
-use Rattle.rules.specs.Der.{element, header, run, Member, Group, groups, rowsOfMembers, rowsOfGroups}
-use Rattle.rules.specs.San.{GeneralName, tagOf, contentOf, nameKind, writeName}
+use Rattle.rules.specs.Der.{header, run, Member, Group, groups, rowsOfMembers, rowsOfGroups}
+use Rattle.rules.specs.San.{GeneralName, nameKind, writeName}
 use Rattle.rules.specs.Subject.{Attribute, attributeKind, writeAttribute, writeSet, attributeRow, subjectGrammar}
 use Rattle.rules.specs.Constraints.{goodRestriction, goodSubtree, writeSubtree, writeSide, subtreeRow, constraintsGrammar}
 use Rattle.rules.specs.declared.Row.{Row}
-use Rattle.reading.specs.Reader.{then, when, asIs, also, Raw, raw, writeRaw, readElement, tagged, alone, items}
+use Rattle.reading.specs.Reader.{also, Raw, raw, writeRaw, readElement, tagged, alone, items}
 use Rattle.reading.specs.Strings.{flat, numberFrom, readAttribute, inOrder, readSet, readSets, readSubject, nameOf, readName, readSubtree, readSide, rising, readSides, readConstraints}
 use Rattle.reading.specs.Answers.{no-some, then-some, when-some, thenF-some, at-end-some, and-parts, is-true}
 use Rattle.reading.specs.Runs.{items-end, items-some}
@@ -24,13 +24,10 @@ use Rattle.reading.specs.Codec.{alsoC, itemsC}
 use Rattle.reading.specs.Codecs.{attributeC, setC, subtreeC, sideC, groups-numbered, groups-sides}
 use Rattle.der.specs.Places.{elementAt, tagFits, taggedAt}
 use Rattle.der.specs.Reads.{Read}
-use Rattle.der.specs.declared.Element.{Element}
 use Rattle.der.specs.declared.Element.the-variants.{Found}
 use Rattle.entries.specs.Entries.{textTagOf, textOf, placeName, placeAttribute, attributeAt, readShape, subtreeAt}
-use Rattle.entries.specs.Texts.{TextAt, EndsIn, ends-append, ends-element, ends-self, name-ends, text-at}
-use Rattle.entries.specs.declared.Name.{Name}
-use Rattle.entries.specs.declared.Name.the-variants.{Is, Malformed}
-use Rattle.steps.specs.Steps.{stopped, nextGroup, cursor, shown, setOpened, attributeNext, subjectStart, subjectEntry, subjectStep, sideOpened, subtreeNext, constraintsStart, constraintsEntry, constraintsStep}
+use Rattle.entries.specs.declared.Name.the-variants.{Is}
+use Rattle.steps.specs.Steps.{nextGroup, cursor, shown, setOpened, attributeNext, subjectStart, subjectEntry, subjectStep, sideOpened, subtreeNext, constraintsStart, constraintsEntry, constraintsStep}
 use Rattle.steps.specs.Walks.{Walk, done, step-to, run-cons, name-of, written-length, content-start, outer-read}
 use Rattle.steps.specs.declared.Cursor.{Cursor}
 use Rattle.steps.specs.declared.Step.{Step}

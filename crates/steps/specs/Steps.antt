@@ -1,10 +1,9 @@
 -- One step of a walk: the row of the name at a cursor, where its text starts, and the next cursor. For every cursor.
-use Prim.Native.Nat.{ℕ, suc, _+_, _-_, _%_}
+use Prim.Native.Nat.{ℕ, _+_, _-_, _%_}
 use mathlib.Core.List.{List}
-use mathlib.Core.Bool.{Bool, true, false, cond}
+use mathlib.Core.Bool.{cond}
 use lib.Dec.{ltb, eqb}
 use lib.ListN.{length}
-use Rattle.rules.specs.declared.Row.{Row}
 use Rattle.der.specs.Places.{elementAt, taggedAt}
 use Rattle.der.specs.declared.Element.{Element}
 use Rattle.der.specs.declared.Element.the-variants.{Found, Truncated, BadLength, BadTag}

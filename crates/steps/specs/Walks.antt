@@ -1,20 +1,20 @@
 -- A walk from a cursor shows a list of names, one after the other, with the rows of that list: `san-walk`.
-use Prim.Native.Nat.{ℕ, zero, suc, _+_, _-_, _≤_, _<_}
+use Prim.Native.Nat.{ℕ, zero, suc, _+_, _-_, _≤_}
 use mathlib.Core.Path.{_≡_, refl, sym, ap, subst, _∙_}
-use mathlib.Core.Bool.{Bool, true, false, cond}
-use mathlib.Core.Option.{Option, none, some}
-use mathlib.Core.List.{List, [], _∷_, _++_}
+use mathlib.Core.Bool.{Bool, true, false}
+use mathlib.Core.Option.{Option, some}
+use mathlib.Core.List.{List, [], _∷_}
 use native.Mathlib.Omega.{arith}
 use native.Mathlib.Numerals.{add-one}
 use lib.ListN.{length}
-use lib.Dec.{T, eqb, ltb}
-use lib.Seq.{slice, slice-empty, length-slice, take-length}
+use lib.Dec.{eqb}
+use lib.Seq.{slice, length-slice, take-length}
 use borrow.Author.Tests.{lt-ltb, le-ltb, eqb-true, eqb-false}
 use Rattle.rules.specs.Bytes.{some?}
 use Rattle.rules.specs.Der.{element, header, run}
 use Rattle.rules.specs.San.{GeneralName, goodName, nameKind, writeName, rowsOfNames, sanGrammar}
 use Rattle.rules.specs.declared.Row.{Row}
-use Rattle.reading.specs.Reader.{then, when, asIs, also, Raw, raw, writeRaw, tagged, alone, items}
+use Rattle.reading.specs.Reader.{also, Raw, raw, writeRaw, tagged, alone, items}
 use Rattle.reading.specs.Strings.{nameOf, readName, readSan}
 use Rattle.reading.specs.Answers.{no-some, then-some, when-some}
 use Rattle.reading.specs.Element.{element-length}
@@ -26,10 +26,8 @@ use Rattle.der.specs.Reads.{Read, found-read, refused-read, whole-element, tagg
 use Rattle.der.specs.declared.Element.{Element}
 use Rattle.der.specs.declared.Element.the-variants.{Found, Truncated, BadLength, BadTag}
 use Rattle.entries.specs.Entries.{textTagOf, textOf, placeName, nameAt}
-use Rattle.entries.specs.Texts.{TextAt, NamedAt, named}
-use Rattle.entries.specs.declared.Name.{Name}
-use Rattle.entries.specs.declared.Name.the-variants.{Is, Malformed}
-use Rattle.steps.specs.Steps.{stopped, nextGroup, cursor, shown, orElse, orStop, inside, sanStart, sanEntry, sanStep}
+use Rattle.entries.specs.declared.Name.the-variants.{Is}
+use Rattle.steps.specs.Steps.{nextGroup, cursor, shown, sanStart, sanEntry, sanStep}
 use Rattle.steps.specs.declared.Cursor.{Cursor}
 use Rattle.steps.specs.declared.Step.{Step}
 

@@ -1,9 +1,9 @@
 -- What the counting loops return, by their own tests, and how each turn goes on.
-use Prim.Native.Nat.{ℕ, zero, suc, _+_, _-_, _^_, _≤_, _<_}
+use Prim.Native.Nat.{ℕ, suc, _+_, _-_, _^_, _≤_, _<_}
 use mathlib.Core.Path.{_≡_, refl, sym, ap, _∙_}
 use mathlib.Core.Bool.{Bool, true, false, cond, _&&_, _||_}
 use mathlib.Core.Option.{Option, none, some}
-use mathlib.Core.List.{List, [], _∷_, _++_, map}
+use mathlib.Core.List.{List, [], _∷_}
 use native.Mathlib.Omega.{arith}
 use native.Mathlib.Numerals.{add-one}
 use lib.ListN.{length, getD, length-append, length-map}
@@ -13,9 +13,9 @@ use borrow.Author.Tests.{eq-eqb, ne-eqb, lt-ltb, le-ltb}
 use denote.Enum.Declared
 use types.Run
 use Rattle.rules.specs.Bytes.{some?, chain, upTo}
-use Rattle.rules.specs.Der.{Member, Group}
+use Rattle.rules.specs.Der.{Member}
 use Rattle.rules.specs.Subject.{Attribute, writeAttribute}
-use Rattle.reading.specs.Reader.{then, when, isSome, asIs, also, via, Raw, raw, writeRaw, tagged, alone, items}
+use Rattle.reading.specs.Reader.{then, when, isSome, asIs, also, Raw, raw, writeRaw, tagged, alone, items}
 use Rattle.reading.specs.Strings.{readName, readSan, flat, numberFrom, readAttribute, inOrder, readSet, readSets, readSubject, readSubtree}
 use Rattle.reading.specs.Runs.{items-end, items-open, items-some, items-size}
 use Rattle.reading.specs.Answers.{some-of, then-some, when-some}

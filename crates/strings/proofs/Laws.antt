@@ -6,7 +6,7 @@ use Rattle.strings.proofs.Counting.{order-done, order-longer, order-les
 use Rattle.strings.proofs.Counting.{sets-start, sets-end, sets-refused, set-after, set-body, set-within, set-fits, set-less, sets-bad, sets-count, sets-next, subject-none, subject-open, subject-sets}
 use Rattle.strings.proofs.Counting.{side-start, side-end, side-refused, side-bad, side-next}
 use Rattle.strings.proofs.Usual.{unusual, usual-name-is, usual-attribute-is, usual-set-is, usual-room, usual-less}
-use Rattle.strings.proofs.Sides.{sides-empty, sides-start, sides-end, sides-refused, sides-low, sides-high, sides-none, sides-bad, sides-count, sides-sum, sides-next, constraints-none, constraints-open, constraints-sides}
+use Rattle.strings.proofs.Sides.{sides-empty, sides-start, sides-end, sides-refused, sides-low, sides-high, sides-none, sides-bad, sides-next, constraints-none, constraints-open, constraints-sides}
 
 pub ruleset places = (not-found, no-name, no-count, next-after, next-later, next-body, next-within, next-fits, next-less, next-count)
 

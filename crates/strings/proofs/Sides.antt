@@ -1,19 +1,19 @@
 -- What the counting of constraints returns, by its own tests.
-use Prim.Native.Nat.{ℕ, zero, suc, _+_, _-_, _^_, _≤_, _<_}
+use Prim.Native.Nat.{ℕ, _+_, _-_, _^_, _≤_, _<_}
 use mathlib.Core.Path.{_≡_, refl, sym, ap, _∙_}
 use mathlib.Core.Bool.{Bool, true, false, cond, _&&_}
 use mathlib.Core.Option.{Option, none, some}
-use mathlib.Core.List.{List, [], _∷_, _++_, map}
+use mathlib.Core.List.{List, [], _∷_}
 use native.Mathlib.Omega.{arith}
 use lib.ListN.{length, length-append, length-map}
-use lib.Dec.{T, eqb, ltb, leb, ltb→lt, leb→le}
+use lib.Dec.{ltb, leb, ltb→lt}
 use lib.Seq.{slice, slice-empty, length-slice}
-use borrow.Author.Tests.{lt-ltb, le-ltb, le-leb, lt-leb, ltb-true, ltb-false}
+use borrow.Author.Tests.{lt-ltb, le-leb, lt-leb, ltb-true, ltb-false}
 use Rattle.rules.specs.Bytes.{some?, all, chain}
 use Rattle.rules.specs.Der.{Member, Group}
 use Rattle.rules.specs.San.{GeneralName}
 use Rattle.rules.specs.Constraints.{goodSubtree}
-use Rattle.reading.specs.Reader.{then, when, asIs, also, Raw, raw, numberedBy, items}
+use Rattle.reading.specs.Reader.{then, when, asIs, also, raw, items}
 use Rattle.reading.specs.Strings.{flat, readSubtree, readSide, rising, readSides, readConstraints}
 use Rattle.reading.specs.Answers.{and-parts}
 use Rattle.reading.specs.Runs.{items-end, items-some, items-size}

@@ -1,16 +1,15 @@
 -- How many names are read, and how a loop counts them.
-use Prim.Native.Nat.{ℕ, suc, _+_, _-_}
+use Prim.Native.Nat.{ℕ, _+_}
 use mathlib.Core.List.{List, [], _∷_}
-use mathlib.Core.Bool.{Bool, true, false, cond, _&&_}
+use mathlib.Core.Bool.{Bool, true, cond, _&&_}
 use mathlib.Core.Option.{Option, none, some}
 use lib.Dec.{leb}
 use lib.ListN.{length}
 use lib.Seq.{slice}
 use Rattle.rules.specs.Bytes.{some?, chain, upTo}
 use Rattle.rules.specs.Der.{Group}
-use Rattle.rules.specs.San.{GeneralName}
-use Rattle.rules.specs.Subject.{Attribute, writeAttribute}
-use Rattle.reading.specs.Reader.{Raw, also, items}
+use Rattle.rules.specs.Subject.{writeAttribute}
+use Rattle.reading.specs.Reader.{also, items}
 use Rattle.reading.specs.Strings.{readName, readAttribute, inOrder, readSet, readSubtree, readSide, rising}
 use Rattle.strings.specs.declared.Count.{Count}
 use Rattle.strings.specs.declared.Count.the-variants.{Of, Unreadable}

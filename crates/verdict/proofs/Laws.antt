@@ -35,7 +35,7 @@ use Rattle.constrained.specs.declared.Breached as breached
 use Rattle.constrained.specs.declared.Breached.the-variants.{At, Nothing}
 use Rattle.issuers.specs.Strings.{stringsIn, stringAt, fit-count}
 use Rattle.pairs.specs.Pairs.{OutcomeFits}
-use Rattle.verdict.specs.Judging.{constraintsLong, anyLong, subjectRead, constraintsRead, refusalOf, SmallWitness, Small, numbers-are-small, place-is-small, numbers-of-inputs, place-of-inputs}
+use Rattle.verdict.specs.Judging.{constraintsLong, anyLong, subjectRead, constraintsRead, firstRefusal, SmallWitness, Small, numbers-are-small, place-is-small, numbers-of-inputs, place-of-inputs}
 use Rattle.verdict.proofs.Refusing.{whole, AllRead, sizes-fit, lengths-fit, refused-is, all-read, judged-is}
 
 -- ---- any_long
@@ -160,8 +160,8 @@ module _ (C L : List ℕ) where
 -- ---- refusal
 
 module _ (R S J C L : List ℕ) (t : Bool) (t-is : t ≡ anyLong R S J C L) where
-  pub ref-long : t ≡ true → 7 ≡ refusalOf R S J C L
-  unfolding refusalOf
+  pub ref-long : t ≡ true → 7 ≡ firstRefusal R S J C L
+  unfolding firstRefusal
   ref-long h = simp (← t-is, h)
 
   module _ (t-not : t ≡ false) where
@@ -169,31 +169,31 @@ module _ (R S J C L : List ℕ) (t : Bool) (t-is : t ≡ anyLong R S J C L) wher
     asks-fit = lengths-fit R S J C L (sym t-is ∙ t-not)
 
   module _ (t-not : t ≡ false) (g : Bool) (g-is : g ≡ goodRecords R) where
-    pub ref-records : not g ≡ true → 6 ≡ refusalOf R S J C L
-    unfolding refusalOf
+    pub ref-records : not g ≡ true → 6 ≡ firstRefusal R S J C L
+    unfolding firstRefusal
     ref-records h = simp (← t-is, t-not, ← g-is, h)
 
     module _ (good : not g ≡ false) (a : Bool) (a-is : a ≡ validated readSan S) where
-      pub ref-san : not a ≡ true → 3 ≡ refusalOf R S J C L
-      unfolding refusalOf
+      pub ref-san : not a ≡ true → 3 ≡ firstRefusal R S J C L
+      unfolding firstRefusal
       ref-san h = simp (← t-is, t-not, ← g-is, good, ← a-is, h)
 
       module _ (san : not a ≡ false) (b : Bool) (b-is : b ≡ subjectRead J) where
-        pub ref-subject : not b ≡ true → 4 ≡ refusalOf R S J C L
-        unfolding refusalOf
+        pub ref-subject : not b ≡ true → 4 ≡ firstRefusal R S J C L
+        unfolding firstRefusal
         ref-subject h = simp (← t-is, t-not, ← g-is, good, ← a-is, san, ← b-is, h)
 
         module _ (subject : not b ≡ false) (c : Bool) (c-is : c ≡ constraintsRead C L) where
-          pub ref-constraints : not c ≡ true → 5 ≡ refusalOf R S J C L
-          unfolding refusalOf
+          pub ref-constraints : not c ≡ true → 5 ≡ firstRefusal R S J C L
+          unfolding firstRefusal
           ref-constraints h = simp (← t-is, t-not, ← g-is, good, ← a-is, san, ← b-is, subject, ← c-is, h)
 
-          pub ref-none : not c ≡ false → 0 ≡ refusalOf R S J C L
-          unfolding refusalOf
+          pub ref-none : not c ≡ false → 0 ≡ firstRefusal R S J C L
+          unfolding firstRefusal
           ref-none h = simp (← t-is, t-not, ← g-is, good, ← a-is, san, ← b-is, subject, ← c-is, h)
 
-pub refusal-small : (R S J C L : List ℕ) (n : ℕ) → n ≡ refusalOf R S J C L → n ≤ 7
-unfolding refusalOf
+pub refusal-small : (R S J C L : List ℕ) (n : ℕ) → n ≡ firstRefusal R S J C L → n ≤ 7
+unfolding firstRefusal
 refusal-small R S J C L n e = rw e (go (anyLong R S J C L) (not (goodRecords R)) (not (validated readSan S)) (not (subjectRead J)) (not (constraintsRead C L)))
   where
     go : (t g a b c : Bool) → cond t 7 (cond g 6 (cond a 3 (cond b 4 (cond c 5 0)))) ≤ 7
@@ -229,7 +229,7 @@ small-outcome R S J h (some p) f =
       text-fits = f .text-fits;
     }
 
-module _ (R S J C L : List ℕ) (n : ℕ) (n-is : n ≡ refusalOf R S J C L) where
+module _ (R S J C L : List ℕ) (n : ℕ) (n-is : n ≡ firstRefusal R S J C L) where
   pub out-refused : (n ≡ 0 → ⊥) → Refused n ≡ whole R S J C L
   out-refused h = refused-is R S J C L n n-is h
 

@@ -22,7 +22,7 @@ use Rattle.reading.specs.Views.{seenSan, seenSubject, seenConstraints}
 use Rattle.reading.specs.Calls.{inputs, seenIssuers, outcomeOn}
 use Rattle.der.specs.Runs.{validated, namesOf}
 use Rattle.issuers.specs.Strings.{stringsIn, fit-strings, fit-cut, fit-sizes, wrong-strings}
-use Rattle.verdict.specs.Judging.{constraintsLong, anyLong, subjectRead, constraintsRead, refusalOf}
+use Rattle.verdict.specs.Judging.{constraintsLong, anyLong, subjectRead, constraintsRead, firstRefusal}
 use Rattle.verdict.proofs.Views.{records-long, records-bad, records-list, string-long, optional-bad, optional-list, needed-bad, needed-list, strings-long, strings-bad, strings-list}
 
 -- no test of four passes
@@ -145,8 +145,8 @@ module _ (R S J C L : List ℕ) where
   By zero = AllRead × (whole ≡ ofNames)
   By (suc n) = Refused (suc n) ≡ whole
 
-  by : By (refusalOf R S J C L)
-  unfolding refusalOf outcomeOn outcomeOf
+  by : By (firstRefusal R S J C L)
+  unfolding firstRefusal outcomeOn outcomeOf
   by = go (anyLong R S J C L) (goodRecords R) (validated readSan S) (subjectRead J) (constraintsRead C L) refl refl refl refl refl
     where
       go : (t g a b c : Bool) → anyLong R S J C L ≡ t → goodRecords R ≡ g → validated readSan S ≡ a → subjectRead J ≡ b → constraintsRead C L ≡ c
@@ -161,11 +161,11 @@ module _ (R S J C L : List ℕ) where
         rw (long-is, et, records-is et, eg, san-is et, ea, subject-is et, eb, constraints-is et, ec) (lists et eg ec),
       )
 
-  pub refused-is : (n : ℕ) → n ≡ refusalOf R S J C L → (n ≡ 0 → ⊥) → Refused n ≡ whole
+  pub refused-is : (n : ℕ) → n ≡ firstRefusal R S J C L → (n ≡ 0 → ⊥) → Refused n ≡ whole
   refused-is zero e h = absurd (h refl)
   refused-is (suc n) e h = rw (← e) at by
 
-  module _ (n : ℕ) (e : n ≡ refusalOf R S J C L) (f : n ≡ 0) where
+  module _ (n : ℕ) (e : n ≡ firstRefusal R S J C L) (f : n ≡ 0) where
     pub all-read : AllRead
     all-read = (rw (sym e ∙ f) at by) .0
 

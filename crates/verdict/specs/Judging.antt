@@ -10,7 +10,7 @@ use Rattle.rules.specs.Bytes.{all, any}
 use Rattle.rules.specs.Numbers.{sanLimit, subjectLimit, constraintsLimit, recordsLimit, inputTooLong, recordsUnreadable, sanUnreadable, subjectUnreadable, constraintsUnreadable}
 use Rattle.rules.specs.Records.{goodRecords}
 use Rattle.rules.specs.Seen.{lengthsFit}
-use Rattle.rules.specs.Verdict.{numbersOf, witnessPart}
+use Rattle.rules.specs.Verdict.{numbersOf, verdictOf, witnessPart}
 use Rattle.rules.specs.declared.Place.{Place}
 use Rattle.rules.specs.declared.Witness.{Witness}
 use Rattle.rules.specs.declared.Verdict.{Verdict}
@@ -42,8 +42,8 @@ unfoldable pub constraintsRead : List ℕ → List ℕ → Bool
 constraintsRead constraints lengths = all (validated readConstraints) (stringsIn lengths constraints)
 
 -- the refusal that comes first, "7 .., then 6, 3, 4, 5", or 0 where all four inputs are read
-unfoldable pub refusalOf : List ℕ → List ℕ → List ℕ → List ℕ → List ℕ → ℕ
-refusalOf references san subject constraints lengths =
+unfoldable pub firstRefusal : List ℕ → List ℕ → List ℕ → List ℕ → List ℕ → ℕ
+firstRefusal references san subject constraints lengths =
     cond (anyLong references san subject constraints lengths) inputTooLong
     (cond (not (goodRecords references)) recordsUnreadable
     (cond (not (validated readSan san)) sanUnreadable
@@ -130,7 +130,7 @@ module _ (S J : List ℕ) (o : Outcome) (small : Small S J o) where
 -- the numbers and the text's place of an outcome are those of the inputs that it is the outcome of
 module _ (i : Inputs) (o : Outcome) (o-is : o ≡ outcomeOn i) where
   pub numbers-of-inputs : (v : Verdict) → v ≡ numbersOf o → v ≡ verdictOn i
-  unfolding verdictOn
+  unfolding verdictOn verdictOf outcomeOn
   numbers-of-inputs v e = e ∙ ap numbersOf o-is
 
   pub place-of-inputs : (p : Place) → p ≡ witnessPart o → p ≡ witnessPartOn i

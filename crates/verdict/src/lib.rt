@@ -34,7 +34,7 @@ ghost use Rattle.rules.specs.Verdict.{numbers, numbersOf, witnessPart, witnessT
 ghost use Rattle.reading.specs.Strings.{readSan, readConstraints};
 ghost use Rattle.reading.specs.Calls.{inputs, outcomeOn, verdictOn, witnessTextOn, witnessPartOn, witnessPlaceOn};
 ghost use Rattle.der.specs.Runs.{validated};
-ghost use Rattle.verdict.specs.Judging.{constraintsLong, anyLong, subjectRead, constraintsRead, refusalOf, SmallWitness, Small, SmallNumbers, SmallPlace};
+ghost use Rattle.verdict.specs.Judging.{constraintsLong, anyLong, subjectRead, constraintsRead, firstRefusal, SmallWitness, Small, SmallNumbers, SmallPlace};
 
 // "a ninth, or lengths with another sum, is 7, and each keeps its own length limit"
 fn constraints_long(lengths: &[usize], size: usize) -> bool
@@ -142,7 +142,7 @@ fn refusal(
     constraints: &[u8],
     lengths: &[usize],
 ) -> usize
-    ensures { λ r. ⌜ r ≡ refusalOf (now (references .entry)) (now (san .entry)) (now (subject .entry)) (now (constraints .entry)) (now (lengths .entry)) ⌝ }
+    ensures { λ r. ⌜ r ≡ firstRefusal (now (references .entry)) (now (san .entry)) (now (subject .entry)) (now (constraints .entry)) (now (lengths .entry)) ⌝ }
 {
     let long = any_long(references, san, subject, constraints, lengths);
     if long {

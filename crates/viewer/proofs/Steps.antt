@@ -1,11 +1,12 @@
--- Step after step: a viewer that is stepped n times shows what the rules' steps show from its position. So what is proved of those
--- from an opening (`viewings` of crates/demands) is so of `open` and `step`.
+-- Step after step: a viewer that is stepped n times shows what the n-th step of the viewer's request shows from its position. So what is
+-- proved of that from an opening (`viewings` of crates/demands) is so of `open` and `step`.
 use Prim.Native.Nat.{ℕ, zero, suc}
 use mathlib.Core.Path.{_≡_, refl}
 use mathlib.Core.List.{List}
 use denote.Ref.{RefT, now}
-use Rattle.rules.specs.Viewer.{openingAt, nthAt, nthSight}
+use Rattle.rules.specs.Viewer.{openingAt}
 use Rattle.reading.specs.Calls.{viewOn}
+use Rattle.demands.specs.Viewing.{nthAt, nthSight}
 use Rattle.viewer.specs.Viewers.{openedBy, steppedBy}
 use Rattle.viewer.specs.declared.Viewer.{Viewer}
 
