@@ -7,7 +7,7 @@ use mathlib.Core.Option.{some, Option·some-injective}
 use mathlib.Core.List.{List, [], _∷_, _++_, append-assoc, append-nil}
 use native.Mathlib.Omega.{arith}
 use lib.ListN.{length, take, getElem?, length-append}
-use lib.Dec.{T, ltb, eqb, eqb→eq}
+use lib.Dec.{ltb, eqb}
 use borrow.Author.Tests.{ltb-true, ltb-false, eq-eqb, eqb-true, eqb-false}
 use Rattle.rules.specs.Bytes.{same}
 use Rattle.rules.specs.Der.{Member, Group, element, header, run, groups, rowsOfMembers, rowsOfGroups, Writes}
@@ -17,7 +17,8 @@ use Rattle.rules.specs.Constraints.{writeSubtree, subtreeRow, writeSide}
 use Rattle.rules.specs.declared.Row.{Row}
 use Rattle.reading.specs.Strings.{flat}
 use Rattle.reading.specs.Groups.{members, flat-groups}
-use Rattle.reading.specs.Answers.{no-some, and-parts}
+use Rattle.reading.specs.Answers.{no-some}
+use Rattle.rules.proofs.Test.{same-eq}
 use Rattle.demands.specs.Statements.{head, frontInGroups, NameKind, AttributeKind, CertificateString, RowOf, sanString, subjectString, constraintsString}
 
 -- ---- lists side by side
@@ -194,17 +195,6 @@ pub same-refl : (s : List ℕ) → same s s ≡ true
 unfolding same
 same-refl [] = refl
 same-refl (x ∷ s) = simp (eq-eqb x x refl, same-refl s)
-
-pub same-eq : (s t : List ℕ) → T (same s t) → s ≡ t
-unfolding same
-same-eq [] [] h = refl
-same-eq [] (y ∷ t) h = absurd h
-same-eq (x ∷ s) [] h = absurd h
-same-eq (x ∷ s) (y ∷ t) h =
-    let p = and-parts (eqb x y) (same s t) h in
-    let e : x ≡ y = eqb→eq x y (p .0) in
-    let f : s ≡ t = same-eq s t (p .1) in
-    cc
 
 -- a test of equal bytes, where they are equal and where they are not
 same-cases : (s t : List ℕ) (P : Bool → Type 0) → (s ≡ t → P true) → ((s ≡ t → ⊥) → P false) → P (same s t)

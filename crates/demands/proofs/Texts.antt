@@ -12,7 +12,8 @@ use Rattle.rules.specs.San.{GeneralName, plain, other, srvOid}
 use Rattle.rules.specs.Matching.{if-some, taggedText, srvText}
 use Rattle.reading.specs.Answers.{no-some}
 use Rattle.demands.specs.Issuers.{IsSrv}
-use Rattle.demands.proofs.Places.{same-refl, same-eq}
+use Rattle.rules.proofs.Test.{same-eq}
+use Rattle.demands.proofs.Places.{same-refl}
 
 -- an entry of one tag has its content
 pub tagged-is : (tag : ℕ) (n : GeneralName) (c : List ℕ) → taggedText tag n ≡ some c ↔ n ≡ plain tag c

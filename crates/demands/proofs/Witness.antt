@@ -4,7 +4,7 @@ use mathlib.Core.Path.{_≡_, refl, sym, ap, subst, _∙_}
 use mathlib.Core.Logic.{_≢_, inl, inr}
 use mathlib.Core.Bool.{Bool, true, false, cond, _&&_}
 use mathlib.Core.Option.{some, Option·getD, Option·some-injective}
-use mathlib.Core.List.{List, [], _∷_, _++_, append-assoc}
+use mathlib.Core.List.{List, [], _++_, append-assoc}
 use native.Mathlib.Omega.{arith}
 use lib.ListN.{length, take, drop, getElem?, length-append}
 use lib.Seq.{take-at, drop-at}
@@ -13,7 +13,7 @@ use borrow.Author.Tests.{eqb-true, eqb-false}
 use Rattle.rules.specs.Bytes.{part}
 use Rattle.rules.specs.Numbers.{dnsKind, srvKind, uriKind, cnKind}
 use Rattle.rules.specs.Records.{Reference}
-use Rattle.rules.specs.Der.{Member, element, lengthBytes}
+use Rattle.rules.specs.Der.{Member, element}
 use Rattle.rules.specs.San.{GeneralName, srvOid, tagOf, contentOf, writeName}
 use Rattle.rules.specs.Subject.{Attribute, writeAttribute, isCn, cnTag}
 use Rattle.rules.specs.Seen.{sanInput, subjectInput, Reads}
@@ -24,6 +24,7 @@ use Rattle.rules.specs.declared.Outcome.{Outcome}
 use Rattle.rules.specs.declared.Outcome.the-variants.{Refused, Broken, Matched, Mismatched}
 use Rattle.reading.specs.Answers.{no-some}
 use Rattle.reading.specs.Calls.{Inputs, outcomeOn, verdictOn, witnessTextOn, witnessPartOn, witnessPlaceOn}
+use Rattle.reading.specs.Ends.{EndsIn, ends-append, ends-element, ends-self}
 use Rattle.demands.specs.Statements.{Names, Read, MatchesAt, PairAt, First, Reported, sanString, subjectString}
 use Rattle.demands.proofs.Places.{san-rows, subject-rows}
 use Rattle.demands.proofs.Texts.{tagged-is, srv-is, some-passes}
@@ -32,22 +33,6 @@ use Rattle.demands.proofs.Judged.{Judged, broken, matched, mismatched, 
 use Rattle.demands.proofs.Verdicts.{answer, is-broken, is-matched, is-mismatched, judged-on}
 
 -- ---- a text at the end of an element
-
--- e ends in t
-pub record EndsIn (e t : List ℕ) : Type 0 where
-  pub front : List ℕ
-  pub is : e ≡ front ++ t
-
--- what ends in t still does with more in front, and as an element's content
-ends-append : (a b t : List ℕ) → EndsIn b t → EndsIn (a ++ b) t
-ends-append a b t h = record { front = a ++ h .front; is = ap (λ x. a ++ x) (h .is) ∙ sym (append-assoc a (h .front) t) }
-
-ends-element : (tag : ℕ) (c t : List ℕ) → EndsIn c t → EndsIn (element tag c) t
-unfolding element
-ends-element tag c t h = ends-append (tag ∷ lengthBytes (length c)) c t h
-
-ends-self : (t : List ℕ) → EndsIn t t
-ends-self t = record { front = []; is = refl }
 
 -- where a text is that ends an element, by the element's row
 module _ (b e t : List ℕ) (front behind : List ℕ) (r : Row) (size : r .length ≡ length e) (start : r .start ≡ length front) (bytes : b ≡ front ++ (e ++ behind)) (h : EndsIn e t) where
@@ -69,14 +54,14 @@ module _ (b e t : List ℕ) (front behind : List ℕ) (r : Row) (size : r .lengt
 -- the content of an entry
 plain-ends : (tag : ℕ) (n : GeneralName) (t : List ℕ) → taggedText tag n ≡ some t → EndsIn (writeName n) t
 unfolding writeName tagOf contentOf
-plain-ends tag n t e = rw (tagged-is tag n t .0 e) (ends-element tag t t (ends-self t))
+plain-ends tag n t e = rw (tagged-is tag n t .0 e) (ends-element tag (ends-self t))
 
 -- the IA5String of an SRVName
 srv-ends : (n : GeneralName) (t : List ℕ) → srvText n ≡ some t → EndsIn (writeName n) t
 unfolding writeName tagOf contentOf
 srv-ends n t e =
     let h = srv-is n t .0 e in
-    rw (h .1) (ends-element 0xA0 _ t (ends-append (element 0x06 srvOid) _ t (ends-element 0xA0 _ t (ends-element (h .0) t t (ends-self t)))))
+    rw (h .1) (ends-element 0xA0 (ends-append (element 0x06 srvOid) (ends-element 0xA0 (ends-element (h .0) (ends-self t)))))
 
 -- of each kind
 entry-ends : (kind : ℕ) (n : GeneralName) (t : List ℕ) → entryText kind n ≡ some t → EndsIn (writeName n) t
@@ -100,7 +85,7 @@ cn-ends subject a t e = go (isCn (a .value) && cnTag (a .value .tag) && soleCn s
     go : (b : Bool) → (isCn (a .value) && cnTag (a .value .tag) && soleCn subject (a .group)) ≡ b → EndsIn (writeAttribute (a .value)) t
     go true f =
         let q : c ≡ t = Option·some-injective c t (rw f at e) in
-        ends-element 0x30 _ t (ends-append (element 0x06 (a .value .oid)) _ t (ends-element (a .value .tag) c t (subst (λ x. EndsIn x t) (sym q) (ends-self t))))
+        ends-element 0x30 (ends-append (element 0x06 (a .value .oid)) (ends-element (a .value .tag) (subst (λ x. EndsIn x t) (sym q) (ends-self t))))
     go false f = absurd (no-some (rw f at e))
 
 -- ---- the witness

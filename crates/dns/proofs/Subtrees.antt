@@ -8,16 +8,11 @@ use lib.ListN.{length, take, drop}
 use Rattle.octets.proofs.Cases.{by-cases}
 use Rattle.octets.proofs.Parts.{rest-is}
 use Rattle.names.proofs.Labels.{others, labels-are, same-domain}
+use Rattle.rules.proofs.SameLabels.{last-none}
 use Rattle.rules.specs.Bytes.{any, after}
-use Rattle.rules.specs.Names.{is, dot, domain, labels, sameLabels, sameDomain, domainWithin, wildcard, dnsId, dnsRestriction, subtreeLabels, dnsWithin, oneLabelThen, dnsReaches, lastLabels}
+use Rattle.rules.specs.Names.{is, dot, domain, labels, sameLabels, sameDomain, domainWithin, wildcard, dnsId, dnsRestriction, subtreeLabels, dnsWithin, oneLabelThen, dnsReaches}
 use Rattle.dns.specs.Wildcard.{pastFirst}
 use Rattle.dns.proofs.Matching.{wild, wild-is, star-first}
-
--- no labels are the last of any
-last-none : (l : List (List ℕ)) → lastLabels [] l ≡ true
-unfolding lastLabels sameLabels
-last-none [] = refl
-last-none (x ∷ l) = last-none l
 
 -- ---- an empty subtree, and another
 

@@ -84,9 +84,9 @@ module _ (which : ℕ) (s : List ℕ) where
 
 -- ---- how many names
 
-no-bytes : {A : Type 0} (s : List A) → length s ≡ 0 → s ≡ []
-no-bytes [] e = refl
-no-bytes (x ∷ s) e = absurd (omega arith)
+pub none-in : {A : Type 0} (s : List A) → length s ≡ 0 → s ≡ []
+none-in [] e = refl
+none-in (x ∷ s) e = absurd (omega arith)
 
 -- a string that has bytes is not absent
 there : {Name : Type 0} (I : Input Name) (s : List ℕ) → (length s ≡ 0 → ⊥) → absent I s ≡ false
@@ -100,7 +100,7 @@ there I (x ∷ s) e = go (I .optional)
 module _ (which : ℕ) (s : List ℕ) where
   pub san-absent : which ≡ 0 → length s ≡ 0 → Of 0 ≡ countOf which s
   unfolding countOf
-  san-absent e f = rw (eq-eqb which 0 e, no-bytes s f)
+  san-absent e f = rw (eq-eqb which 0 e, none-in s f)
 
   pub san-counted : which ≡ 0 → (length s ≡ 0 → ⊥) → (r : Count) → r ≡ placeCount (readSan s) → r ≡ countOf which s
   unfolding countOf
@@ -113,7 +113,7 @@ module _ (which : ℕ) (s : List ℕ) where
   module _ (e : which ≡ 0 → ⊥) (f : which ≡ 1 → ⊥) where
     pub constraints-absent : length s ≡ 0 → Of 0 ≡ countOf which s
     unfolding countOf
-    constraints-absent g = rw (ne-eqb which 0 e, ne-eqb which 1 f, no-bytes s g)
+    constraints-absent g = rw (ne-eqb which 0 e, ne-eqb which 1 f, none-in s g)
 
     pub constraints-counted : (length s ≡ 0 → ⊥) → (r : Count) → r ≡ placeCount (readConstraints s) → r ≡ countOf which s
     unfolding countOf

@@ -3,7 +3,7 @@ use Prim.Native.Nat.{ℕ, _≤_, zero-le}
 use mathlib.Core.Path.{_≡_, refl, ap}
 use mathlib.Core.Bool.{Bool, true, false, cond}
 use mathlib.Core.Option.{Option, none, some}
-use mathlib.Core.List.{List, [], _∷_, _++_}
+use mathlib.Core.List.{List, [], _++_}
 use native.Mathlib.Omega.{arith}
 use lib.Dec.{ltb, eqb}
 use lib.ListN.{length, drop}
@@ -21,10 +21,7 @@ use Rattle.listing.specs.Steps.{stepOf, firstOf}
 use Rattle.listing.specs.declared.Plan.{Plan}
 use Rattle.listing.specs.Plans.{refused, openedFor, openedOf, planFor, planOf}
 use Rattle.listing.proofs.Fill.{filled}
-
-no-rows : {A : Type 0} (l : List A) → length l ≡ 0 → l ≡ []
-no-rows [] e = refl
-no-rows (a ∷ l) e = absurd (omega arith)
+use Rattle.listing.proofs.Planning.{none-in}
 
 -- the steps of a string show the rows of what is seen of it
 module _ {Name : Type 0} (I : Input Name) (read : List ℕ → Option (List Name)) (R : ReadsExactly (I .grammar) read) (which : ℕ) (s : List ℕ)
@@ -38,7 +35,7 @@ module _ {Name : Type 0} (I : Input Name) (read : List ℕ → Option (List Name
       go true a o f e = let z : _≡_ {A = ℕ} 0 1 = cc in absurd (omega arith)
       go false true o f e =
           let k : I .grammar .rows [] ≡ rows = cc in
-          rw (← k, no-rows (I .grammar .rows []) (R .count []))
+          rw (← k, none-in (I .grammar .rows []) (R .count []))
       go false false none f e = let z : _≡_ {A = ℕ} 0 1 = cc in absurd (omega arith)
       go false false (some l) f e =
           let k : I .grammar .rows l ≡ rows = cc in

@@ -4,6 +4,7 @@ pub mod Reader
 pub mod Strings
 pub mod Answers
 pub mod Element
+pub mod Ends
 pub mod Codec
 pub mod Runs
 pub mod Groups

@@ -2,7 +2,7 @@
 -- is the number of its names. It has one row for each". Stated once over a grammar, and proved for the three strings.
 use Prim.Native.Nat.{ℕ, suc, _+_}
 use mathlib.Core.Path.{_≡_, refl, sym, ap, _∙_}
-use mathlib.Core.Logic.{_↔_, _⊎_, inl, inr}
+use mathlib.Core.Logic.{_↔_}
 use mathlib.Core.Option.{Option, none, some}
 use mathlib.Core.List.{List, [], _∷_}
 use lib.ListN.{length, length-append}
@@ -18,12 +18,10 @@ use Rattle.reading.specs.Codec.{Codec, unique}
 use Rattle.reading.specs.Groups.{members, flat-groups}
 use Rattle.reading.specs.Codecs.{sanC, subjectC, constraintsC}
 
--- the bytes have one reading
+-- a reader reads exactly what a grammar writes, and the bytes have one reading
 pub record ReadsExactly {Name : Type 0} (G : Grammar Name) (read : List ℕ → Option (List Name)) : Type 0 where
   -- bytes are read as a list exactly where the grammar writes that list as those bytes
   pub exactly : (b : List ℕ) (l : List Name) → (read b ≡ some l) ↔ Writes G l b
-  -- of all bytes: some list is written so, or none is
-  pub decided : (b : List ℕ) → ((l : List Name) × Writes G l b) ⊎ ((l : List Name) → Writes G l b → ⊥)
   -- two lists written as the same bytes are the same list
   pub only : (l l′ : List Name) (b : List ℕ) → Writes G l b → Writes G l′ b → l ≡ l′
   -- a list has no second writing
@@ -40,17 +38,9 @@ module _ {Name : Type 0} (G : Grammar Name) {read : List ℕ → Option (List Na
     λ w. rw (w .bytes-are) (C .complete l (w .good)),
   )
 
-  read-or-not : (b : List ℕ) → ((l : List Name) × Writes G l b) ⊎ ((l : List Name) → Writes G l b → ⊥)
-  read-or-not b = go (read b) refl
-    where
-      go : (o : Option (List Name)) → read b ≡ o → ((l : List Name) × Writes G l b) ⊎ ((l : List Name) → Writes G l b → ⊥)
-      go none e = inr (λ l w. no-some (rw e at (reads b l .1 w)))
-      go (some l) e = inl (l, reads b l .0 e)
-
   one-reading : read [] ≡ none → ((l : List Name) → length (G .rows l) ≡ length l) → ReadsExactly G read
   one-reading empty count = record {
     exactly = reads;
-    decided = read-or-not;
     only = λ l l′ b w w′. unique C l l′ (w .good) (w′ .good) (sym (w .bytes-are) ∙ w′ .bytes-are);
     once = λ l b b′ w w′. w .bytes-are ∙ sym (w′ .bytes-are);
     present = λ l w. no-some (sym empty ∙ reads [] l .1 w);

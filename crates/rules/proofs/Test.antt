@@ -33,14 +33,14 @@ bool-is true false h = absurd h
 bool-is false true h = absurd h
 bool-is false false h = refl
 
-bytes-are : (s t : List ℕ) → T (same s t) → s ≡ t
+pub same-eq : (s t : List ℕ) → T (same s t) → s ≡ t
 unfolding same
-bytes-are [] [] h = refl
-bytes-are [] (y ∷ t) h = absurd h
-bytes-are (x ∷ s) [] h = absurd h
-bytes-are (x ∷ s) (y ∷ t) h =
+same-eq [] [] h = refl
+same-eq [] (y ∷ t) h = absurd h
+same-eq (x ∷ s) [] h = absurd h
+same-eq (x ∷ s) (y ∷ t) h =
     let p = and-parts (eqb x y) (same s t) h in
-    λ i. eqb→eq x y (p .0) i ∷ bytes-are s t (p .1) i
+    λ i. eqb→eq x y (p .0) i ∷ same-eq s t (p .1) i
 
 abbrev pub sameVerdict : Verdict → Verdict → Bool
 sameVerdict v w =
@@ -126,7 +126,7 @@ module _ {Name : Type 0} (I : Input Name) (bytes : List ℕ) (list : List Name) 
   reads : T (writes I bytes list) ⊎ T (absent I bytes list) → Reads I bytes list
   reads (inl w) =
       let p = and-parts (I .grammar .good list) _ w in
-      inl (record { good = p .0; bytes-are = bytes-are bytes (I .grammar .write list) (p .1) })
+      inl (record { good = p .0; bytes-are = same-eq bytes (I .grammar .write list) (p .1) })
   reads (inr a) =
       let p = and-parts (I .optional) _ a in
       let q = and-parts (not (some? bytes)) _ (p .1) in
@@ -198,7 +198,7 @@ holds (subtree restricted name inside) h =
 holds (dnsName presented reference matched) h = bool-is (dnsMatches reference presented) matched h
 holds (noDnsId presented) h = bool-is (dnsId presented) false h
 holds (tested test passed) h = bool-is test passed h
-holds (written bytes shown) h = bytes-are bytes shown h
+holds (written bytes shown) h = same-eq bytes shown h
 holds (refused references san subject constraints answer) h =
     verdict-is (verdictOf references san subject constraints) (numbers answer 0 0 0 0 0) h
 holds (sanRows r) h = has-rows sanInput r h
