@@ -15,7 +15,8 @@ use Rattle.reading.specs.Answers.{no-some}
 use Rattle.reading.specs.Codec.{aloneC}
 use Rattle.reading.specs.Codecs.{nameC}
 use Rattle.entries.specs.Entries.{textOf, wholeAt, placeText, textPlace}
-use Rattle.entries.specs.Texts.{TextAt, ends-element, name-ends, text-at}
+use Rattle.reading.specs.Ends.{ends-element}
+use Rattle.entries.specs.Texts.{TextAt, name-ends, text-at}
 
 -- the text that is asked for is that of the name
 unfoldable pub OwnText : (GeneralName → Option (List ℕ)) → Type 0

@@ -16,7 +16,7 @@ use Rattle.steps.specs.Steps.{stopped, nextGroup, cursor, shown, orElse,
 use Rattle.steps.specs.declared.Cursor.{Cursor}
 use Rattle.steps.specs.declared.Step.{Step}
 
-pub stop-is : (at end group : ℕ) → record { row = record { kind = 0; start = 0; length = 0; group = 0 }; text = 0; next = record { at = at; end = end; group = group } } ≡ stopped at end group
+pub stop-is : (at end group : ℕ) → record { row = record { kind = 0; start = 0; length = 0; group = 0 }; next = record { at = at; end = end; group = group } } ≡ stopped at end group
 unfolding stopped
 stop-is at end group = refl
 
@@ -80,7 +80,7 @@ module _ (s : List ℕ) (at end group : ℕ) (e : Element) (e-is : e ≡ element
     unfolding sanEntry
     san-malformed q r-is = r-is ∙ rw (← e-is, f, ← m-is, q)
 
-    pub san-shown : (k u x : ℕ) → m ≡ Is k u x → (a : ℕ) → a ≡ nextGroup group n → r ≡ shown k at n group x (cursor n end a) → r ≡ sanEntry s at end group
+    pub san-shown : (k u x : ℕ) → m ≡ Is k u x → (a : ℕ) → a ≡ nextGroup group n → r ≡ shown k at n group (cursor n end a) → r ≡ sanEntry s at end group
     unfolding sanEntry
     san-shown k u x q a a-is r-is = r-is ∙ rw (← e-is, f, ← m-is, q, a-is)
 
@@ -169,18 +169,18 @@ module _ (s : List ℕ) (at end group : ℕ) (e : Element) (e-is : e ≡ element
     subject-malformed m-is q r-is = r-is ∙ rw (← e-is, f, ← m-is, q)
 
     pub subject-shown : m ≡ attributeAt s t b n → (k u x : ℕ) → m ≡ Is k u x → (d : Cursor) → d ≡ attributeNext s n end group
-        → r ≡ shown k at n group x (cursor (d .at) (d .end) (d .group)) → r ≡ subjectEntry s at end group
+        → r ≡ shown k at n group (cursor (d .at) (d .end) (d .group)) → r ≡ subjectEntry s at end group
     unfolding subjectEntry
-    subject-shown m-is k u x q d d-is r-is = r-is ∙ rw (← e-is, f, ← m-is, q) (ap (shown k at n group x) d-is)
+    subject-shown m-is k u x q d d-is r-is = r-is ∙ rw (← e-is, f, ← m-is, q) (ap (shown k at n group) d-is)
 
     pub constraints-malformed : m ≡ subtreeAt s t b n → m ≡ Malformed → r ≡ stopped at end group → r ≡ constraintsEntry s at end group
     unfolding constraintsEntry
     constraints-malformed m-is q r-is = r-is ∙ rw (← e-is, f, ← m-is, q)
 
     pub constraints-shown : m ≡ subtreeAt s t b n → (k u x : ℕ) → m ≡ Is k u x → (d : Cursor) → d ≡ subtreeNext s n end group
-        → r ≡ shown k b n group x (cursor (d .at) (d .end) (d .group)) → r ≡ constraintsEntry s at end group
+        → r ≡ shown k b n group (cursor (d .at) (d .end) (d .group)) → r ≡ constraintsEntry s at end group
     unfolding constraintsEntry
-    constraints-shown m-is k u x q d d-is r-is = r-is ∙ rw (← e-is, f, ← m-is, q) (ap (shown k b n group x) d-is)
+    constraints-shown m-is k u x q d d-is r-is = r-is ∙ rw (← e-is, f, ← m-is, q) (ap (shown k b n group) d-is)
 
 -- ---- sides
 

@@ -98,7 +98,7 @@ module _ (s : List ℕ) where
       let y : attributeAt s t b n ≡ Is (attributeKind a) (a .tag) x = rw q in
       let len : length (writeAttribute a) ≡ n - at = written-length s at end t b n fits d (writeAttribute a) (ap writeRaw w) in
       record {
-        to = shown (attributeKind a) at n i x (attributeNext s n end i);
+        to = shown (attributeKind a) at n i (attributeNext s n end i);
         is = rw (le-ltb (length s) end fits, le-ltb end at h, found, y);
         row-is = λ j. record { kind = attributeKind a; start = at; length = sym len j; group = i };
         next-is = refl;
@@ -193,7 +193,7 @@ module _ (s : List ℕ) where
       let len : n - b ≡ length (writeName m) = sym (length-slice b n s k) ∙ ap length c in
       let whole : length (writeSubtree m) ≡ n - at = written-length s at end t b n fits d (writeSubtree m) (ap writeRaw w) in
       record {
-        to = shown (nameKind m) b n i x (subtreeNext s n end i);
+        to = shown (nameKind m) b n i (subtreeNext s n end i);
         is = rw (le-ltb (length s) end fits, le-ltb end at h, found, y);
         row-is = λ j. record { kind = nameKind m; start = u j; length = len j; group = i };
         next-is = refl;

@@ -1,4 +1,4 @@
--- One step of a walk: the row of the name at a cursor, where its text starts, and the next cursor. For every cursor.
+-- One step of a walk: the row of the name at a cursor, and the next cursor. For every cursor.
 use Prim.Native.Nat.{ℕ, _+_, _-_, _%_}
 use mathlib.Core.List.{List}
 use mathlib.Core.Bool.{cond}
@@ -16,7 +16,7 @@ use Rattle.steps.specs.declared.Step.{Step}
 -- no name stands at the cursor
 unfoldable pub stopped : ℕ → ℕ → ℕ → Step
 stopped at end group =
-    record { row = record { kind = 0; start = 0; length = 0; group = 0 }; text = 0; next = record { at = at; end = end; group = group } }
+    record { row = record { kind = 0; start = 0; length = 0; group = 0 }; next = record { at = at; end = end; group = group } }
 
 unfoldable pub nextGroup : ℕ → ℕ → ℕ
 nextGroup group at = cond (ltb group at) (group + 1) group
@@ -25,9 +25,8 @@ abbrev pub cursor : ℕ → ℕ → ℕ → Cursor
 cursor at end group = record { at = at; end = end; group = group }
 
 -- the step that shows a name from `at` to `next`
-abbrev pub shown : ℕ → ℕ → ℕ → ℕ → ℕ → Cursor → Step
-shown kind start next group text c =
-    record { row = record { kind = kind; start = start; length = next - start; group = group }; text = text; next = c }
+abbrev pub shown : ℕ → ℕ → ℕ → ℕ → Cursor → Step
+shown kind start next group c = record { row = record { kind = kind; start = start; length = next - start; group = group }; next = c }
 
 -- ---- what is read, or where nothing is
 
@@ -37,8 +36,8 @@ orElse z Truncated f = z
 orElse z BadLength f = z
 orElse z BadTag f = z
 
-abbrev pub orStop : {X : Type 0} → X → Name → (ℕ → ℕ → ℕ → X) → X
-orStop z (Is k u x) f = f k u x
+abbrev pub orStop : {X : Type 0} → X → Name → (ℕ → X) → X
+orStop z (Is k u x) f = f k
 orStop z Malformed f = z
 
 -- a cursor that lies in the slice
@@ -53,7 +52,7 @@ sanStart s = orElse (cursor 0 0 0) (taggedAt s 0 (length s) 0x30) (λ t b n. cur
 unfoldable pub sanEntry : List ℕ → ℕ → ℕ → ℕ → Step
 sanEntry s at end group =
     orElse (stopped at end group) (elementAt s at end) (λ t b n.
-    orStop (stopped at end group) (nameAt s t b n) (λ k u x. shown k at n group x (cursor n end (nextGroup group n))))
+    orStop (stopped at end group) (nameAt s t b n) (λ k. shown k at n group (cursor n end (nextGroup group n))))
 
 unfoldable pub sanStep : List ℕ → Cursor → Step
 sanStep s c = inside s (c .at) (c .end) (c .group) (sanEntry s (c .at) (c .end) (c .group))
@@ -72,7 +71,7 @@ subjectStart s = orElse (cursor 0 0 0) (taggedAt s 0 (length s) 0x30) (λ t b n.
 unfoldable pub subjectEntry : List ℕ → ℕ → ℕ → ℕ → Step
 subjectEntry s at end group =
     orElse (stopped at end group) (elementAt s at end) (λ t b n.
-    orStop (stopped at end group) (attributeAt s t b n) (λ k u x. shown k at n group x (attributeNext s n end group)))
+    orStop (stopped at end group) (attributeAt s t b n) (λ k. shown k at n group (attributeNext s n end group)))
 
 unfoldable pub subjectStep : List ℕ → Cursor → Step
 subjectStep s c = inside s (c .at) (c .end) (c .group) (subjectEntry s (c .at) (c .end) (c .group))
@@ -92,7 +91,7 @@ constraintsStart s = orElse (cursor 0 0 0) (taggedAt s 0 (length s) 0x30) (λ t 
 unfoldable pub constraintsEntry : List ℕ → ℕ → ℕ → ℕ → Step
 constraintsEntry s at end group =
     orElse (stopped at end group) (elementAt s at end) (λ t b n.
-    orStop (stopped at end group) (subtreeAt s t b n) (λ k u x. shown k b n group x (subtreeNext s n end group)))
+    orStop (stopped at end group) (subtreeAt s t b n) (λ k. shown k b n group (subtreeNext s n end group)))
 
 unfoldable pub constraintsStep : List ℕ → Cursor → Step
 constraintsStep s c = inside s (c .at) (c .end) (c .group) (constraintsEntry s (c .at) (c .end) (c .group))

@@ -99,7 +99,7 @@ module _ (s : List ℕ) (at end t b n : ℕ) (fits : end ≤ length s) (d : Read
 
 module _ (s : List ℕ) where
   san-step-is : (at end i t b n k u x : ℕ) → at ≤ end → end ≤ length s → elementAt s at end ≡ Found t b n → nameAt s t b n ≡ Is k u x
-      → sanStep s (cursor at end i) ≡ shown k at n i x (cursor n end (nextGroup i n))
+      → sanStep s (cursor at end i) ≡ shown k at n i (cursor n end (nextGroup i n))
   unfolding sanStep sanEntry
   san-step-is at end i t b n k u x h fits e f = rw (le-ltb (length s) end fits, le-ltb end at h, e, f)
 

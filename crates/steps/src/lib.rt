@@ -1,4 +1,4 @@
-// A walk over the names of a certificate string: each step shows the row of one name, and where its text starts.
+// A walk over the names of a certificate string: each step shows the row of one name.
 use der::Element;
 use der::read_element;
 use der::tagged;
@@ -20,10 +20,9 @@ pub struct Cursor {
     pub group: usize,
 }
 
-// A name's row, where its text starts (it ends where the row's element ends), and where the walk goes on.
+// A name's row, and where the walk goes on.
 pub struct Step {
     pub row: Row,
-    pub text: usize,
     pub next: Cursor,
 }
 
@@ -38,7 +37,6 @@ fn stop(at: usize, end: usize, group: usize) -> Step
             length: 0,
             group: 0,
         },
-        text: 0,
         next: Cursor {
             at: at,
             end: end,
@@ -53,13 +51,12 @@ fn show(
     start: usize,
     past: usize,
     group: usize,
-    text: usize,
     at: usize,
     end: usize,
     after: usize,
 ) -> Step
     requires { ⌜ start ≤ past ⌝ }
-    ensures { λ r. ⌜ r ≡ shown kind start past group text (cursor at end after) ⌝ }
+    ensures { λ r. ⌜ r ≡ shown kind start past group (cursor at end after) ⌝ }
 {
     Step {
         row: Row {
@@ -68,7 +65,6 @@ fn show(
             length: past - start,
             group: group,
         },
-        text: text,
         next: Cursor {
             at: at,
             end: end,
@@ -123,11 +119,16 @@ fn san_entry(s: &[u8], at: usize, end: usize, group: usize) -> Step
         return stop(at, end, group);
     };
     let n = name_shape(s, tag, start, next);
-    let Name::Is { kind, tag: _, text } = n else {
+    let Name::Is {
+        kind,
+        tag: _,
+        text: _,
+    } = n
+    else {
         return stop(at, end, group);
     };
     let after = next_group(group, next);
-    show(kind, at, next, group, text, next, end, after)
+    show(kind, at, next, group, next, end, after)
 }
 
 // The entry at the cursor.
@@ -220,11 +221,16 @@ fn subject_entry(s: &[u8], at: usize, end: usize, group: usize) -> Step
         return stop(at, end, group);
     };
     let n = attribute(s, tag, start, next);
-    let Name::Is { kind, tag: _, text } = n else {
+    let Name::Is {
+        kind,
+        tag: _,
+        text: _,
+    } = n
+    else {
         return stop(at, end, group);
     };
     let c = after_attribute(s, next, end, group);
-    show(kind, at, next, group, text, c.at, c.end, c.group)
+    show(kind, at, next, group, c.at, c.end, c.group)
 }
 
 // The attribute at the cursor.
@@ -312,11 +318,16 @@ fn constraints_entry(s: &[u8], at: usize, end: usize, group: usize) -> Step
         return stop(at, end, group);
     };
     let n = subtree_shape(s, tag, start, next);
-    let Name::Is { kind, tag: _, text } = n else {
+    let Name::Is {
+        kind,
+        tag: _,
+        text: _,
+    } = n
+    else {
         return stop(at, end, group);
     };
     let c = after_subtree(s, next, end, group);
-    show(kind, start, next, group, text, c.at, c.end, c.group)
+    show(kind, start, next, group, c.at, c.end, c.group)
 }
 
 // The subtree at the cursor.
