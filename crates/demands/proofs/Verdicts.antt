@@ -1,14 +1,14 @@
 -- The verdict's answers in order, and what names give.
 use Prim.Native.Nat.{ℕ, _≤_}
-use mathlib.Core.Path.{_≡_, sym, ap, subst, _∙_}
+use mathlib.Core.Path.{_≡_, refl, sym, ap, subst, _∙_}
 use mathlib.Core.Logic.{_↔_, _≢_, inl, inr}
 use mathlib.Core.List.{List, [], _∷_}
 use native.Mathlib.Omega.{arith}
 use Rattle.rules.specs.declared.Verdict.{Verdict}
 use Rattle.rules.specs.Matching.{Presented}
-use Rattle.rules.specs.Verdict.{witnessOf, numbers, numbersOf, verdictOf}
+use Rattle.rules.specs.Verdict.{witnessOf, numbers, numbersOf, verdictOf, withPlace, allNumbers}
 use Rattle.rules.specs.declared.Outcome.the-variants.{Broken, Matched, Mismatched}
-use Rattle.reading.specs.Calls.{Inputs, outcomeOn, verdictOn}
+use Rattle.reading.specs.Calls.{Inputs, outcomeOn, verdictOn, witnessPartOn}
 use Rattle.demands.specs.Statements.{Names, Read, BreaksAt, PairAt, Answer, when, verdictAnswers, Verdicts}
 use Rattle.demands.proofs.Order.{Chosen, each-exactly}
 use Rattle.demands.proofs.Endings.{Ending, long, records, san, subject, constraints, read, ending, fits-not-long, outcome-of-names, read-fits, read-records, read-constraints, read-unique}
@@ -159,9 +159,14 @@ zeros s no-match unbroken = go (ending s)
     go (constraints f g i k h e) = same 5 e
     go (read l r) = judging l (judged-on s l r)
 
+from-c : (s : Inputs) → allNumbers (outcomeOn s) ≡ withPlace (verdictOn s) (witnessPartOn s)
+unfolding verdictOn verdictOf outcomeOn witnessPartOn allNumbers
+from-c s = refl
+
 pub verdicts : (s : Inputs) → Verdicts s
 verdicts s = record {
   order = each-exactly [] (verdictAnswers s) (verdictOn s .answer) tt (chosen s (ending s));
   zeros = zeros s;
   first-broken = λ l r. first-broken s l r;
+  from-c = from-c s;
 }

@@ -20,7 +20,7 @@ use Rattle.rules.specs.Subject.{Attribute, isCn, cnOid, cnTag, writeAttribute, 
 use Rattle.rules.specs.Constraints.{writeSubtree, writeSide}
 use Rattle.rules.specs.Seen.{Seen, listed, Input, sanInput, subjectInput, constraintsInput, Reads, Sees, together, seenRecords}
 use Rattle.rules.specs.Matching.{Presented, presentedTo, matches, blocksCn, soleCn, breaks}
-use Rattle.rules.specs.Verdict.{numbers, past, outcomeOf}
+use Rattle.rules.specs.Verdict.{numbers, past, outcomeOf, withPlace, allNumbers}
 use Rattle.rules.specs.declared.Row.{Row}
 use Rattle.rules.specs.declared.Shown.{Shown}
 use Rattle.demands.specs.Issuers.{BreaksString, KeptOut}
@@ -253,6 +253,8 @@ pub record Verdicts (s : Inputs) : Type 0 where
       (l : Names) → Read s l → verdictOn s .answer ≡ 2
       → (k : ℕ) × (i : ℕ) × (verdictOn s ≡ numbers 2 0 i 0 0 k) × BreaksAt l k i
       × ((k′ i′ : ℕ) → BreaksAt l k′ i′ → (k < k′) ⊎ ((k ≡ k′) × (i ≤ i′)))
+  -- "callable from C .., with each detail number by a call of its own": C's calls give these six, and where the witness's text lies
+  pub from-c : allNumbers (outcomeOn s) ≡ withPlace (verdictOn s) (witnessPartOn s)
 
 -- the listing of the string S, of which the number is `which`
 pub record Listings (which : ℕ) (S : CertificateString) : Type 0 where

@@ -1,4 +1,4 @@
-// DER elements and the names that they hold, read from a part of a slice: `at` is where the part starts, `end` where it ends.
+// DER elements, read from a part of a slice: `at` is where the part starts, `end` where it ends.
 ghost use Prim.Native.Nat.{_+_, _≤_};
 ghost use mathlib.Core.Path.{_≡_};
 ghost use mathlib.Core.Bool.{true};

@@ -1,5 +1,5 @@
 // The identifiers that a certificate presents: the text of a SAN entry, and what an RDN set of the subject presents. The strings were
-// found readable before, so nothing is judged again here.
+// found readable before; all that is judged again here is an attribute, for its kind and the place of its value.
 use der::Element;
 use der::element_end;
 use der::read_element;
