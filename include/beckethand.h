@@ -5,9 +5,9 @@
  * keep to the name constraints of every CA above it (RFC 4985, RFC 5280). Both are narrowed by rules of our own, which docs/RULES.md
  * says whole.
  *
- * INPUTS. Five byte strings, each a pointer and a length; a pointer may be NULL where the length is 0. Nothing has to be checked
- * first: every call answers for any bytes at all, reads nothing outside them, allocates nothing and keeps nothing. The five may
- * overlap one another; none may change while a call runs.
+ * INPUTS. Five byte strings, each a pointer and a length. As many bytes as the length says must be there to be read; where it is 0 the
+ * pointer may be NULL. Nothing else has to be checked first: every call answers for any bytes at all, reads nothing outside them,
+ * allocates nothing and keeps nothing. The five may overlap one another; none may change while a call runs.
  *
  *   san          the value of the subjectAltName extension, a DER SEQUENCE; empty if the certificate has none
  *   subject      the subject, a DER Name. A certificate always has one: a subject without names is the two bytes 30 00
@@ -34,10 +34,11 @@
  *   }
  *   answer = beckethand_answer(san, san_len, subject, subject_len, constraints, end, lengths, 2 * n, references, references_len);
  *
- * ANSWERS, and what a kiosk should do:
+ * ANSWERS, and what a kiosk should do. 0 is a match and 1 is not, the reverse of OpenSSL's X509_check_host: ask beckethand_is_match. A
+ * verdict that is not filled in yet starts as BECKETHAND_MISMATCH, and not as zeroed memory, which would be a match.
  *
  *   0  match                          go on
- *   1  mismatch                       do not send: the server is another one
+ *   1  mismatch                       do not send: no presented name matches a reference
  *   2  constraints broken             do not send: an SRVName or a dNSName breaks the constraints of a CA, which may not give that
  *                                     name; report the certificate
  *   3  san unreadable                 do not send: report the certificate
@@ -59,9 +60,10 @@
  *
  *   san          an SRVName as UTF8String, or an empty one; a byte above 127 in an email address, a dNSName or a URI; no name
  *   subject      an RDN without attributes; a value whose tag has more than one byte
- *   constraints  a subtree with a minimum or a maximum; an SRVName as UTF8String; an SRVName restriction that is not _service,
- *                _service.domain or domain; a dNSName restriction that is not empty and not a domain; each such as one with a leading
- *                dot, or one whose last label is all digits; neither a permitted nor an excluded subtree
+ *   constraints  a subtree with a minimum or a maximum, a minimum of 0 that is written out among them; an SRVName as UTF8String; an
+ *                SRVName restriction that is not _service, _service.domain or domain; a dNSName restriction that is not empty and not
+ *                a domain; each such as one with a leading dot, or one whose last label is all digits; neither a permitted nor an
+ *                excluded subtree
  *
  * RECORDS. A good record is 320 bytes:
  *
@@ -99,16 +101,24 @@
 #include <stddef.h>
 #include <stdint.h>
 
+/* The compiler warns of a call whose result is dropped, where it has a way to. */
+#ifdef __GNUC__
+#define BECKETHAND_MUST_USE __attribute__((warn_unused_result))
+#else
+#define BECKETHAND_MUST_USE
+#endif
+
 #ifdef __cplusplus
 extern "C" {
 #endif
 
-/* The version of this header: major * 10000 + minor * 100 + patch, so 10000 is 1.0.0; #if can compare it. The first number changes where
+/* The version of this header: major * 10000 + minor * 100 + patch, so 10100 is 1.1.0; #if can compare it. The first number changes where
  * a program that calls it has to be changed, the second where calls or answers are added or changed, the third otherwise. */
-#define BECKETHAND_VERSION 10000
+#define BECKETHAND_VERSION 10100
 
 /* beckethand_version gives the version of the archive that is linked. If it is not BECKETHAND_VERSION, then the program was compiled with
  * the header of another archive. */
+BECKETHAND_MUST_USE
 uint32_t beckethand_version(void);
 
 /* the answers of a verdict */
@@ -150,12 +160,14 @@ uint32_t beckethand_version(void);
 #define BECKETHAND_CN 4
 
 /* beckethand_answer gives the answer, 0 to 7. */
+BECKETHAND_MUST_USE
 uint32_t beckethand_answer(const uint8_t *san, size_t san_len, const uint8_t *subject, size_t subject_len,
                            const uint8_t *constraints, size_t constraints_len, const uint8_t *lengths, size_t lengths_len,
                            const uint8_t *references, size_t references_len);
 
 /* beckethand_reference gives the index, from 0, of the record that matches: the lowest one that matches any name. 0 on any answer
  * but 0. */
+BECKETHAND_MUST_USE
 uint32_t beckethand_reference(const uint8_t *san, size_t san_len, const uint8_t *subject, size_t subject_len,
                               const uint8_t *constraints, size_t constraints_len, const uint8_t *lengths, size_t lengths_len,
                               const uint8_t *references, size_t references_len);
@@ -163,30 +175,36 @@ uint32_t beckethand_reference(const uint8_t *san, size_t san_len, const uint8_t 
 /* beckethand_presented gives, on answer 0, the index of the name that the record matches, the lowest one: the entry's index in the
  * SAN, or the RDN's index in the subject for a CN record. On answer 2, the index of the first SAN entry that breaks the
  * constraints of the CA that beckethand_issuer gives. Else 0. */
+BECKETHAND_MUST_USE
 uint32_t beckethand_presented(const uint8_t *san, size_t san_len, const uint8_t *subject, size_t subject_len,
                               const uint8_t *constraints, size_t constraints_len, const uint8_t *lengths, size_t lengths_len,
                               const uint8_t *references, size_t references_len);
 
 /* beckethand_start and beckethand_length give, on answer 0, where that name's whole DER element lies: the GeneralName in the SAN,
  * or the attribute's SEQUENCE in the subject for a CN record. Else 0. */
+BECKETHAND_MUST_USE
 uint32_t beckethand_start(const uint8_t *san, size_t san_len, const uint8_t *subject, size_t subject_len,
                           const uint8_t *constraints, size_t constraints_len, const uint8_t *lengths, size_t lengths_len,
                           const uint8_t *references, size_t references_len);
+BECKETHAND_MUST_USE
 uint32_t beckethand_length(const uint8_t *san, size_t san_len, const uint8_t *subject, size_t subject_len,
                            const uint8_t *constraints, size_t constraints_len, const uint8_t *lengths, size_t lengths_len,
                            const uint8_t *references, size_t references_len);
 
 /* beckethand_text_start and beckethand_text_length give, on answer 0, where that name's text lies, in the subject for a CN record
  * and in the SAN for any other: the content of the dNSName or URI, of the SRVName's IA5String, of the CN's value. Else 0. */
+BECKETHAND_MUST_USE
 uint32_t beckethand_text_start(const uint8_t *san, size_t san_len, const uint8_t *subject, size_t subject_len,
                                const uint8_t *constraints, size_t constraints_len, const uint8_t *lengths, size_t lengths_len,
                                const uint8_t *references, size_t references_len);
+BECKETHAND_MUST_USE
 uint32_t beckethand_text_length(const uint8_t *san, size_t san_len, const uint8_t *subject, size_t subject_len,
                                 const uint8_t *constraints, size_t constraints_len, const uint8_t *lengths, size_t lengths_len,
                                 const uint8_t *references, size_t references_len);
 
 /* beckethand_issuer gives, on answer 2, the index, from 0, of the first CA whose constraints are broken, in the order of the lengths: 0 is
  * the CA that issued the certificate. Else 0. */
+BECKETHAND_MUST_USE
 uint32_t beckethand_issuer(const uint8_t *san, size_t san_len, const uint8_t *subject, size_t subject_len,
                            const uint8_t *constraints, size_t constraints_len, const uint8_t *lengths, size_t lengths_len,
                            const uint8_t *references, size_t references_len);
@@ -197,18 +215,23 @@ struct beckethand_verdict {
 };
 
 /* beckethand_verdict gives, at the cost of one of the calls above, what all eight of them give. */
+BECKETHAND_MUST_USE
 struct beckethand_verdict beckethand_verdict(const uint8_t *san, size_t san_len, const uint8_t *subject, size_t subject_len,
                                              const uint8_t *constraints, size_t constraints_len, const uint8_t *lengths,
                                              size_t lengths_len, const uint8_t *references, size_t references_len);
 
 /* beckethand_record_answer says whether the records are good: 7 if they are too long, else 6 if any of them is bad, there is none,
  * or their length is no multiple of 320, else 0. The index does not change it. */
+BECKETHAND_MUST_USE
 uint32_t beckethand_record_answer(const uint8_t *references, size_t references_len, size_t index);
 
 /* beckethand_record_kind, _service_length and _domain_length give those numbers of the record at the index, from 0; zeros where the
  * answer is not 0, and past the last record. */
+BECKETHAND_MUST_USE
 uint32_t beckethand_record_kind(const uint8_t *references, size_t references_len, size_t index);
+BECKETHAND_MUST_USE
 uint32_t beckethand_record_service_length(const uint8_t *references, size_t references_len, size_t index);
+BECKETHAND_MUST_USE
 uint32_t beckethand_record_domain_length(const uint8_t *references, size_t references_len, size_t index);
 
 /* A row of a listing. kind: one of the numbers below. start, length: where the name's DER element lies in the listed bytes: the
@@ -251,6 +274,7 @@ struct beckethand_listed {
  * else 0 with the count, and the first count rows of the table hold the names in byte order. Rows past the count keep what they held,
  * and on any answer but 0 all rows do. An absent SAN, or absent constraints (length 0), lists 0 rows. The table must not overlap the
  * bytes; it may be NULL where lent is 0. */
+BECKETHAND_MUST_USE
 struct beckethand_listed beckethand_list(struct beckethand_row *table, size_t lent, const uint8_t *bytes, size_t bytes_len,
                                          size_t which);
 
@@ -268,11 +292,13 @@ struct beckethand_sight {
 
 /* beckethand_opening answers 7 if the string is too long, else 3, 4 or 5 if it is unreadable, else 0; which is as for
  * beckethand_list. An absent SAN, or absent constraints (length 0), opens with 0, at its end. */
+BECKETHAND_MUST_USE
 uint32_t beckethand_opening(const uint8_t *bytes, size_t bytes_len, size_t which);
 
 /* beckethand_view shows the first row of the string's listing that starts at or past the position, whatever number that is. If there
  * is none, or the opening is refused, it is at the end. A row's group is a count from the start of the string, so each call reads and
  * judges the string from there: the time to page through it grows with its length times its names. */
+BECKETHAND_MUST_USE
 struct beckethand_sight beckethand_view(const uint8_t *bytes, size_t bytes_len, size_t which, size_t at);
 
 /* THE WRITERS make what the other calls read: a SAN value for a certificate request, and reference records for a kiosk. What they write
@@ -310,23 +336,33 @@ struct beckethand_written {
 #define BECKETHAND_BUFFER_TOO_SHORT 24
 
 /* beckethand_write_san writes the value of a subjectAltName extension. */
+BECKETHAND_MUST_USE
 struct beckethand_written beckethand_write_san(uint8_t *buffer, size_t buffer_len, const uint8_t *texts, size_t texts_len,
                                                const size_t *lengths, size_t lengths_count, const uint8_t *kinds, size_t kinds_count);
 
 /* beckethand_write_records writes reference records, end to end, each from 320 zero bytes. */
+BECKETHAND_MUST_USE
 struct beckethand_written beckethand_write_records(uint8_t *buffer, size_t buffer_len, const uint8_t *texts, size_t texts_len,
                                                    const size_t *lengths, size_t lengths_count, const uint8_t *kinds,
                                                    size_t kinds_count);
 
+/* beckethand_is_match gives 1 if the answer of a verdict is a match, and 0 if it is any other number. */
+BECKETHAND_MUST_USE
+static inline int beckethand_is_match(uint32_t answer)
+{
+    return answer == BECKETHAND_MATCH;
+}
+
 /* beckethand_answer_text says in a few words, for logs, what an answer of any call means, or that no call gives such a number. The text
  * is constant, and is not to be freed. */
+BECKETHAND_MUST_USE
 static inline const char *beckethand_answer_text(uint32_t answer)
 {
     switch (answer) {
     case BECKETHAND_MATCH: /* and BECKETHAND_ACCEPTED, which is the same number */
         return "match, accepted or written";
     case BECKETHAND_MISMATCH:
-        return "mismatch: the server is another one";
+        return "mismatch: no presented name matches";
     case BECKETHAND_CONSTRAINTS_BROKEN:
         return "constraints broken: an SRVName or a dNSName breaks the constraints of a CA";
     case BECKETHAND_SAN_UNREADABLE:

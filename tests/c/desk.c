@@ -403,6 +403,7 @@ static void outside_the_grammar(void) {
     unreadable_subject("an RDN without attributes", "30 02 31 00");
     unreadable_subject("a tag of two bytes", "30 0C 31 0A 30 08 06 03 55 04 03 1F 1F 00");
     unreadable_constraints("a minimum", "30 19 A0 17 30 15 A0 10 " SRV_OID "A0 04 16 02 5F 6D 80 01 01");
+    unreadable_constraints("a minimum of 0", "30 19 A0 17 30 15 A0 10 " SRV_OID "A0 04 16 02 5F 6D 80 01 00");
     unreadable_constraints("a maximum", "30 19 A0 17 30 15 A0 10 " SRV_OID "A0 04 16 02 5F 6D 81 01 05");
     unreadable_constraints("a leading dot", "30 16 A0 14 30 12 A0 10 " SRV_OID "A0 04 16 02 2E 62");
     unreadable_constraints("a restriction as UTF8String", "30 16 A0 14 30 12 A0 10 " SRV_OID "A0 04 0C 02 5F 6D");

@@ -25,7 +25,7 @@ struct bytes guarded(struct bytes b);
 /* request 4/13 */
 void writers(void);
 
-/* the version, and what each answer means in words */
+/* the version, which answer is a match, and what each answer means in words */
 void texts(void);
 
 #endif

@@ -1,12 +1,13 @@
-/* The version, and the texts of the answers: what the header alone says is held to the archive, and to what is written out here. */
+/* The version, which answer is a match, and the texts of the answers: what the header alone says is held to the archive, and to what is
+ * written out here. */
 #include <stdio.h>
 #include <string.h>
 
 #include "desk.h"
 
 /* the header says that #if can compare the version */
-#if BECKETHAND_VERSION < 10000
-#error "a version before the first one"
+#if BECKETHAND_VERSION < 10100
+#error "a version before the one that has beckethand_is_match"
 #endif
 
 /* each number that a call answers, by its name in the header, and what it means */
@@ -15,7 +16,7 @@ static const struct {
     const char *text;
 } answers[] = {
     {BECKETHAND_MATCH, "match, accepted or written"},
-    {BECKETHAND_MISMATCH, "mismatch: the server is another one"},
+    {BECKETHAND_MISMATCH, "mismatch: no presented name matches"},
     {BECKETHAND_CONSTRAINTS_BROKEN, "constraints broken: an SRVName or a dNSName breaks the constraints of a CA"},
     {BECKETHAND_SAN_UNREADABLE, "SAN unreadable"},
     {BECKETHAND_SUBJECT_UNREADABLE, "subject unreadable"},
@@ -30,6 +31,9 @@ static const struct {
 };
 
 static const char *const unknown = "no answer of beckethand";
+
+/* numbers that are no answer; the low bits of some are those of a match */
+static const uint32_t none[] = {9, 20, 25, 10000, 0x100, 0x10000, 0x80000000, UINT32_MAX};
 
 /* the numbers themselves, as the header's table of answers and that of the writers have them */
 static const uint32_t numbers[] = {0, 1, 2, 3, 4, 5, 6, 7, 8, 21, 22, 23, 24};
@@ -56,13 +60,21 @@ static void text_of_answer(size_t k) {
 
 /* any number that is no answer has the same text */
 static void text_of_no_answer(void) {
-    static const uint32_t none[] = {9, 20, 25, 10000, 0x100, 0x10000, 0x80000000, UINT32_MAX};
     for (size_t k = 0; k < sizeof none / sizeof *none; k++) {
         char name[32];
         snprintf(name, sizeof name, "text of %u", none[k]);
         cases++;
         check(name, "it is no answer", is_text(none[k], unknown));
     }
+}
+
+/* 0 is a match, and no other number is */
+static void matches(void) {
+    cases++;
+    for (size_t k = 0; k < COUNT; k++)
+        check("beckethand_is_match", "an answer", beckethand_is_match(numbers[k]) == (k == 0));
+    for (size_t k = 0; k < sizeof none / sizeof *none; k++)
+        check("beckethand_is_match", "a number that is no answer", beckethand_is_match(none[k]) == 0);
 }
 
 void texts(void) {
@@ -74,4 +86,5 @@ void texts(void) {
     cases++;
     check("text of 0", "an accepted string or a written list has another", BECKETHAND_ACCEPTED == BECKETHAND_MATCH);
     text_of_no_answer();
+    matches();
 }

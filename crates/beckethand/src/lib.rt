@@ -20,9 +20,9 @@ ghost use Rattle.verdict.specs.Judging.{Small, SmallNumbers, SmallPlace};
 // The version of these calls: major * 10000 + minor * 100 + patch. BECKETHAND_VERSION of include/beckethand.h is the same number.
 #[no_mangle]
 pub extern "C" fn beckethand_version() -> u32
-    ensures { λ r. ⌜ r ≡ 10000 ⌝ }
+    ensures { λ r. ⌜ r ≡ 10100 ⌝ }
 {
-    10000
+    10100
 }
 
 // A number that fits.
