@@ -9,7 +9,7 @@
  *
  * Who decides: OpenSSL the path, signatures, dates and the constraints on other names than SRVNames (names_verify); beckethand the names
  * and the constraints on SRVNames and dNSNames (names_judge, which adds what OpenSSL misses of CNs and URIs). The kiosk sends on
- * BECKETHAND_MATCH and on nothing else.
+ * BECKETHAND_MATCH and on nothing else. It waits for a server KIOSK_SECONDS and no longer.
  */
 #include <openssl/err.h>
 #include <openssl/x509v3.h>
@@ -18,6 +18,7 @@
 #include <string.h>
 #include <sys/socket.h>
 #include <sys/time.h>
+#include <time.h>
 
 #include "names.h"
 
@@ -105,7 +106,7 @@ static void print_pair(const struct beckethand_verdict *v, const struct names *n
 
 static void print_verdict(const struct beckethand_verdict *v, const struct names *names, STACK_OF(X509) *chain, const struct meant *meant)
 {
-    if (v->answer == BECKETHAND_MATCH) {
+    if (beckethand_is_match(v->answer)) {
         printf("match");
         print_pair(v, names, meant);
     } else if (v->answer == BECKETHAND_CONSTRAINTS_BROKEN && v->text_length > 0) {
@@ -139,6 +140,11 @@ static const char *result_text(enum names_result result)
 
 /* ---- the connection */
 
+/* how long a server may take for the whole handshake, and afterwards to say anything at all */
+#ifndef KIOSK_SECONDS
+#define KIOSK_SECONDS 10
+#endif
+
 /* Nothing here asks OpenSSL for a host name: that is beckethand's part. */
 static SSL_CTX *make_context(const char *roots)
 {
@@ -161,6 +167,17 @@ static int is_verified(const SSL *ssl)
     return error == X509_V_OK;
 }
 
+/* Connects and makes the handshake within KIOSK_SECONDS in all, however little the server says at a time; after that the socket waits. */
+static int shake_hands(BIO *server)
+{
+    const time_t end = time(NULL) + KIOSK_SECONDS;
+    BIO_set_nbio(server, 1);
+    while (BIO_do_handshake(server) <= 0)
+        if (!BIO_should_retry(server) || BIO_wait(server, end, 100) <= 0)
+            return 0;
+    return BIO_socket_nbio((int)BIO_get_fd(server, NULL), 0);
+}
+
 /* a handshake with the server at an address; the first record's domain tells it which of its certificates is wanted */
 static BIO *connect_to(SSL_CTX *context, const char *address, const struct meant *meant)
 {
@@ -171,7 +188,7 @@ static BIO *connect_to(SSL_CTX *context, const char *address, const struct meant
         return NULL;
     memcpy(domain, meant->records + BECKETHAND_AT_DOMAIN, meant->records[BECKETHAND_AT_DOMAIN_LENGTH]);
     BIO_get_ssl(server, &ssl);
-    if (SSL_set_tlsext_host_name(ssl, domain) && BIO_set_conn_hostname(server, address) > 0 && BIO_do_handshake(server) > 0)
+    if (SSL_set_tlsext_host_name(ssl, domain) && BIO_set_conn_hostname(server, address) > 0 && shake_hands(server))
         return server;
     ERR_error_string_n(ERR_peek_last_error(), reason, sizeof reason);
     if (is_verified(ssl))
@@ -184,7 +201,7 @@ static BIO *connect_to(SSL_CTX *context, const char *address, const struct meant
 static int may_send(SSL *ssl, const struct meant *meant)
 {
     STACK_OF(X509) *chain = SSL_get0_verified_chain(ssl);
-    struct beckethand_verdict verdict;
+    struct beckethand_verdict verdict = {.answer = BECKETHAND_MISMATCH};
     struct names names;
     enum names_result result;
     if (!is_verified(ssl))
@@ -197,17 +214,14 @@ static int may_send(SSL *ssl, const struct meant *meant)
     verdict = names_judge(&names, meant->records, meant->count * BECKETHAND_RECORD_SIZE);
     print_verdict(&verdict, &names, chain, meant);
     names_free(&names);
-    return verdict.answer == BECKETHAND_MATCH;
+    return beckethand_is_match(verdict.answer);
 }
-
-/* a server that says nothing for so many seconds is left */
-#define PATIENCE 10
 
 /* says that we have sent all, and waits until the server has read it */
 static void close_down(BIO *server, SSL *ssl)
 {
-    const struct timeval limit = {PATIENCE, 0};
-    setsockopt(BIO_get_fd(server, NULL), SOL_SOCKET, SO_RCVTIMEO, &limit, sizeof limit);
+    const struct timeval limit = {KIOSK_SECONDS, 0};
+    setsockopt((int)BIO_get_fd(server, NULL), SOL_SOCKET, SO_RCVTIMEO, &limit, sizeof limit);
     if (SSL_shutdown(ssl) == 0)
         SSL_shutdown(ssl);
     SSL_set_shutdown(ssl, SSL_SENT_SHUTDOWN | SSL_RECEIVED_SHUTDOWN); /* else BIO_free_all waits once more */

@@ -1,9 +1,11 @@
 /* server.c: the servers that the kiosk visits in these tests.
  *
  *   server CHAIN KEY COUNT
+ *   server silent|slow COUNT
  *
  * It listens on a free port of 127.0.0.1 and writes the port's number. For each of COUNT connections it then writes one line: what was
- * received, "nothing" if that was nothing, "no handshake" if there was none.
+ * received, "nothing" if that was nothing, "no handshake" if there was none. A silent server accepts a connection and says nothing; a slow
+ * one says a byte now and then, and never a whole message.
  */
 #include <arpa/inet.h>
 #include <openssl/err.h>
@@ -12,6 +14,7 @@
 #include <signal.h>
 #include <stdio.h>
 #include <stdlib.h>
+#include <string.h>
 #include <unistd.h>
 
 /* longer than the tests of one server take, so that none is left behind */
@@ -77,24 +80,54 @@ static void receive(SSL *ssl)
     SSL_shutdown(ssl);
 }
 
+/* a connection to a server that shows its certificate */
+static void show(int connection, SSL_CTX *context)
+{
+    SSL *ssl = SSL_new(context);
+    if (ssl == NULL || SSL_set_fd(ssl, connection) != 1)
+        stop("no connection of TLS");
+    receive(ssl);
+    SSL_free(ssl);
+}
+
+/* a connection to one that shows none, until the other side is gone */
+static void delay(int connection, int slow)
+{
+    const char header[] = {0x16, 0x03, 0x03, 0x3F, 0x00}; /* of a handshake record of 16,128 bytes, which are zeros here */
+    char bytes[1024];
+    size_t said = 0;
+    if (slow) {
+        while (write(connection, said < sizeof header ? &header[said] : "", 1) == 1) {
+            said++;
+            usleep(100000);
+        }
+    } else {
+        while (read(connection, bytes, sizeof bytes) > 0)
+            continue;
+    }
+    puts("no handshake");
+}
+
 int main(int argc, char **argv)
 {
-    SSL_CTX *context;
-    int listener;
-    if (argc != 4)
-        stop("usage: server CHAIN KEY COUNT");
+    SSL_CTX *context = NULL;
+    int listener, slow = argc == 3 && strcmp(argv[1], "slow") == 0;
+    if (argc != 4 && !slow && (argc != 3 || strcmp(argv[1], "silent") != 0))
+        stop("usage: server CHAIN KEY COUNT, or server silent|slow COUNT");
     signal(SIGPIPE, SIG_IGN);
     alarm(SECONDS);
     setvbuf(stdout, NULL, _IOLBF, BUFSIZ);
-    context = make_context(argv[1], argv[2]);
+    if (argc == 4)
+        context = make_context(argv[1], argv[2]);
     listener = listen_on_loopback();
-    for (int left = atoi(argv[3]); left > 0; left--) {
-        SSL *ssl = SSL_new(context);
+    for (int left = atoi(argv[argc - 1]); left > 0; left--) {
         int connection = accept(listener, NULL, NULL);
-        if (ssl == NULL || connection < 0 || SSL_set_fd(ssl, connection) != 1)
+        if (connection < 0)
             stop("cannot accept");
-        receive(ssl);
-        SSL_free(ssl);
+        if (context != NULL)
+            show(connection, context);
+        else
+            delay(connection, slow);
         close(connection);
     }
     close(listener);
