@@ -109,6 +109,10 @@ static void names(void) {
     san("*.b", one(1, text("*.b")), 400, BECKETHAND_NOT_A_NAME, 0, NULL);
     san("10.4.0.7", one(1, text("10.4.0.7")), 400, BECKETHAND_NOT_A_NAME, 0, NULL);
     san("an empty text", one(1, text("")), 400, BECKETHAND_NOT_A_NAME, 0, NULL);
+    san("an SRVName without _", one(2, text("circulation.library.example")), 400, BECKETHAND_NOT_A_NAME, 0, NULL);
+    san("an SRVName without a domain", one(2, text("_circulation")), 400, BECKETHAND_NOT_A_NAME, 0, NULL);
+    san("an SRVName with _tcp", one(2, text("_circulation._tcp.library.example")), 400, BECKETHAND_NOT_A_NAME, 0, NULL);
+    san("a misspelled SRVName that is an SRV-ID", one(2, text("_circulatoin.library.example")), 46, BECKETHAND_ACCEPTED, 46, NULL);
     san("kind 0", one(0, text("a.b")), 400, BECKETHAND_NOT_A_NAME, 0, NULL);
     san("kind 4", one(BECKETHAND_CN, text("a.b")), 400, BECKETHAND_NOT_A_NAME, 0, NULL);
     san("kind 255", one(255, text("a.b")), 400, BECKETHAND_NOT_A_NAME, 0, NULL);
