@@ -192,8 +192,8 @@ static void expect_pages(const char *name, struct bytes b, size_t which, size_t 
 
 /* the viewer agrees with what a listing with room says; at the end of a page too */
 static void expect_viewer(const char *name, struct bytes b, size_t which, size_t answer) {
-    struct beckethand_row rows[64];
-    struct beckethand_listed listed = beckethand_list(rows, 64, b.at, b.len, which);
+    struct beckethand_row rows[600];
+    struct beckethand_listed listed = beckethand_list(rows, 600, b.at, b.len, which);
     struct bytes last = guarded(b);
     cases++;
     check(name, "more rows than the test has room for", listed.answer != BECKETHAND_TABLE_TOO_SHORT);
@@ -539,6 +539,74 @@ static void listings(void) {
     expect_list("30 00 as subject", from_hex("30 00"), BECKETHAND_LIST_SUBJECT, 2, 0, 0, NULL);
     expect_list("30 00 as constraints", from_hex("30 00"), BECKETHAND_LIST_CONSTRAINTS, 2, 5, 0, NULL);
     expect_list("too long", zeros(BECKETHAND_SAN_LIMIT + 1), BECKETHAND_LIST_SAN, 2, 7, 0, NULL);
+    expect_list("a length that is not shortest", from_hex("30 81 05 82 03 61 2E 62"), BECKETHAND_LIST_SAN, 4, 3, 0, NULL);
+    expect_list("a byte after the SAN", from_hex("30 02 82 00 00"), BECKETHAND_LIST_SAN, 4, 3, 0, NULL);
+}
+
+/* fewer names than the four rows that are lent, as many, and more; groups; what stands out of order */
+static void in_four_rows(void) {
+    const struct beckethand_row three[] = {{2, 2, 3, 0}, {6, 5, 2, 1}, {7, 7, 4, 2}};
+    const struct beckethand_row four[] = {{2, 2, 2, 0}, {2, 4, 2, 1}, {2, 6, 2, 2}, {2, 8, 2, 3}};
+    const struct beckethand_row sets[] = {{12, 4, 8, 0}, {12, 12, 8, 0}, {12, 22, 8, 1}};
+    const struct beckethand_row sides[] = {{2, 6, 2, 0}, {2, 12, 2, 1}, {1, 16, 2, 1}};
+    expect_list("three entries", from_hex("30 09 82 01 61 86 00 87 02 FF FF"), BECKETHAND_LIST_SAN, 4, 0, 3, three);
+    expect_list("four entries", from_hex("30 08 82 00 82 00 82 00 82 00"), BECKETHAND_LIST_SAN, 4, 0, 4, four);
+    expect_list("five entries", from_hex("30 0A 82 00 82 00 82 00 82 00 82 00"), BECKETHAND_LIST_SAN, 4, 8, 5, NULL);
+    expect_list("two sets",
+                from_hex("30 1C 31 10 30 06 06 01 2A 0C 01 61 30 06 06 01 2A 0C 01 62 31 08 30 06 06 01 2A 05 01 62"),
+                BECKETHAND_LIST_SUBJECT, 4, 0, 3, sets);
+    expect_list("a set out of order", from_hex("30 12 31 10 30 06 06 01 2A 0C 01 62 30 06 06 01 2A 0C 01 61"), BECKETHAND_LIST_SUBJECT,
+                4, 4, 0, NULL);
+    expect_list("both sides", from_hex("30 10 A0 04 30 02 82 00 A1 08 30 02 82 00 30 02 81 00"), BECKETHAND_LIST_CONSTRAINTS, 4, 0, 3,
+                sides);
+    expect_list("sides out of order", from_hex("30 0C A1 04 30 02 82 00 A0 04 30 02 82 00"), BECKETHAND_LIST_CONSTRAINTS, 4, 5, 0, NULL);
+}
+
+/* a tag and a length in so many bytes; how many these are together */
+static size_t put_header(uint8_t *at, uint8_t tag, size_t len, size_t form) {
+    const uint8_t bytes[3][4] = {
+        {tag, (uint8_t)len}, {tag, 0x81, (uint8_t)len}, {tag, 0x82, (uint8_t)(len >> 8), (uint8_t)len}};
+    memcpy(at, bytes[form - 1], form + 1);
+    return form + 1;
+}
+
+/* a dNSName whose length is in the form that DER asks for, or in another */
+static void forms_of_lengths(void) {
+    static const struct {
+        size_t len, form;
+        struct beckethand_row row; /* all zeros where the SAN is unreadable */
+    } names[] = {
+        {127, 1, {2, 3, 129, 0}}, {127, 2, {0}}, {128, 1, {0}}, {128, 2, {2, 3, 131, 0}}, {128, 3, {0}},
+        {255, 2, {2, 4, 258, 0}}, {255, 3, {0}}, {256, 2, {0}}, {256, 3, {2, 4, 260, 0}},
+    };
+    for (size_t i = 0; i < sizeof names / sizeof *names; i++) {
+        char name[40];
+        size_t content = 1 + names[i].form + names[i].len;
+        struct bytes b = zeros(4 + content);
+        size_t at = put_header(b.at, 0x30, content, content < 128 ? 1 : content < 256 ? 2 : 3);
+        b.len = at + content;
+        at += put_header(b.at + at, 0x82, names[i].len, names[i].form);
+        memset(b.at + at, 'a', names[i].len);
+        snprintf(name, sizeof name, "a length of %zu in %zu bytes", names[i].len, names[i].form);
+        bool good = names[i].row.kind != 0;
+        expect_list(name, b, BECKETHAND_LIST_SAN, 4, good ? 0 : 3, good ? 1 : 0, &names[i].row);
+    }
+}
+
+/* as many entries as 512 rows hold, and more */
+static void many_rows(void) {
+    static const size_t counts[] = {512, 513, 600};
+    for (size_t k = 0; k < sizeof counts / sizeof *counts; k++) {
+        size_t count = counts[k];
+        struct beckethand_row rows[512];
+        struct bytes b = zeros(4 + 2 * count);
+        size_t at = put_header(b.at, 0x30, 2 * count, 3);
+        for (size_t i = 0; i < count; i++)
+            b.at[at + 2 * i] = 0x82;
+        for (size_t i = 0; i < 512; i++)
+            rows[i] = (struct beckethand_row){BECKETHAND_ROW_DNS, 4 + 2 * i, 2, i};
+        expect_list("many entries", b, BECKETHAND_LIST_SAN, 512, count > 512 ? 8 : 0, count, rows);
+    }
 }
 
 /* a row of every kind and group, by the header's names */
@@ -580,9 +648,30 @@ static struct bytes one_long_name(size_t len, const char *tags) {
     for (const char *t = tags; *t; t += 2, at += 4) {
         struct bytes tag = from_hex((char[]){t[0], t[1], 0});
         size_t content = len - at - 4;
-        memcpy(b.at + at, (uint8_t[]){tag.at[0], 0x82, (uint8_t)(content >> 8), (uint8_t)content}, 4);
+        put_header(b.at + at, tag.at[0], content, 3);
     }
     return b;
+}
+
+/* a subject of so many bytes: one CN */
+static struct bytes one_long_cn(size_t len) {
+    static const uint8_t cn[] = {0x06, 0x03, 0x55, 0x04, 0x03};
+    struct bytes b = one_long_name(len, "303130");
+    memcpy(b.at + 12, cn, sizeof cn);
+    put_header(b.at + 17, 0x0C, len - 21, 3);
+    return b;
+}
+
+/* strings at their limits, and one byte past them */
+static void longest(void) {
+    const struct beckethand_row dns = {BECKETHAND_ROW_DNS, 4, 16380, 0}, cn = {BECKETHAND_ROW_CN, 8, 4088, 0};
+    const struct beckethand_row uri = {BECKETHAND_ROW_URI, 12, 16372, BECKETHAND_EXCLUDED};
+    expect_list("16,384 bytes", one_long_name(16384, "3082"), BECKETHAND_LIST_SAN, 4, 0, 1, &dns);
+    expect_list("16,385 readable bytes", one_long_name(16385, "3082"), BECKETHAND_LIST_SAN, 4, 7, 0, NULL);
+    expect_list("a subject of 4,096", one_long_cn(4096), BECKETHAND_LIST_SUBJECT, 4, 0, 1, &cn);
+    expect_list("a subject of 4,097", one_long_cn(4097), BECKETHAND_LIST_SUBJECT, 4, 7, 0, NULL);
+    expect_list("constraints of 16,384", one_long_name(16384, "30A13086"), BECKETHAND_LIST_CONSTRAINTS, 4, 0, 1, &uri);
+    expect_list("constraints of 16,385", one_long_name(16385, "30A13086"), BECKETHAND_LIST_CONSTRAINTS, 4, 7, 0, NULL);
 }
 
 /* request 3/13 */
@@ -605,11 +694,6 @@ static void viewer(void) {
     check("position 8", "the end, unmoved", is_view(beckethand_view(san.at, san.len, 0, 8), NULL, 8));
     check("position 26", "a subtree's SEQUENCE", is_view(beckethand_view(constraints.at, constraints.len, 2, 26), &subtrees[1], 26));
     check("position 26", "a set's header", is_view(beckethand_view(subject.at, subject.len, 1, 26), &attributes[2], 26));
-    expect_viewer("16,384 bytes", one_long_name(16384, "3082"), BECKETHAND_LIST_SAN, BECKETHAND_ACCEPTED);
-    expect_viewer("16,385 readable bytes", one_long_name(16385, "3082"), BECKETHAND_LIST_SAN, BECKETHAND_INPUT_TOO_LONG);
-    expect_viewer("constraints of 16,384", one_long_name(16384, "30A03086"), BECKETHAND_LIST_CONSTRAINTS, BECKETHAND_ACCEPTED);
-    expect_viewer("constraints of 16,385", one_long_name(16385, "30A03086"), BECKETHAND_LIST_CONSTRAINTS, BECKETHAND_INPUT_TOO_LONG);
-    expect_viewer("a subject of 4,097", zeros(4097), BECKETHAND_LIST_SUBJECT, BECKETHAND_INPUT_TOO_LONG);
 }
 
 /* request 6/13 */
@@ -761,7 +845,11 @@ int main(void) {
     addresses();
     addresses_of_services();
     listings();
+    in_four_rows();
+    forms_of_lengths();
+    many_rows();
     kinds_of_rows();
+    longest();
     viewer();
     every_issuer();
     lengths();

@@ -73,8 +73,25 @@ static void san(const char *name, struct list l, size_t lent, size_t answer, siz
     expect(name, beckethand_write_san, l, lent, answer, length, hex ? from_hex(hex).at : NULL);
 }
 
+/* the records that a list asks for */
+static const uint8_t *laid_out(struct list l) {
+    uint8_t *at = zeros(l.kinds_count * BECKETHAND_RECORD_SIZE).at, *records = at;
+    const uint8_t *from = l.texts.at;
+    for (size_t i = 0; i < l.kinds_count; i++, at += BECKETHAND_RECORD_SIZE) {
+        size_t service = l.lengths[2 * i], domain = l.lengths[2 * i + 1];
+        memcpy(at, (uint8_t[]){l.kinds[i], 0, (uint8_t)service, (uint8_t)domain}, 4);
+        memcpy(at + BECKETHAND_AT_SERVICE, from, service);
+        memcpy(at + BECKETHAND_AT_DOMAIN, from + service, domain);
+        from += service + domain;
+    }
+    return records;
+}
+
 static void record(const char *name, struct list l, size_t lent, size_t answer) {
-    expect(name, beckethand_write_records, l, lent, answer, answer ? 0 : BECKETHAND_RECORD_SIZE, NULL);
+    if (answer == BECKETHAND_ACCEPTED)
+        expect(name, beckethand_write_records, l, lent, answer, l.kinds_count * BECKETHAND_RECORD_SIZE, laid_out(l));
+    else
+        expect(name, beckethand_write_records, l, lent, answer, 0, NULL);
 }
 
 static void refused_by_both(const char *name, struct list l, size_t answer) {
@@ -106,6 +123,9 @@ static void names(void) {
     san("b", one(1, text("b")), 9, BECKETHAND_ACCEPTED, 5, "30 03 82 01 62");
     san("*.b.c", one(1, text("*.b.c")), 9, BECKETHAND_ACCEPTED, 9, "30 07 82 05 2A 2E 62 2E 63");
     san("case is kept", one(1, text("A.b")), 9, BECKETHAND_ACCEPTED, 7, "30 05 82 03 41 2E 62");
+    san("case is kept in an SRVName", one(2, text("_M.b.C")), 40, BECKETHAND_ACCEPTED, 24,
+        "30 16 A0 14 06 08 2B 06 01 05 05 07 08 07 A0 08 16 06 5F 4D 2E 62 2E 43");
+    san("a bad text behind a good one", (struct list){text("a.b-"), LENGTHS(3, 1), KINDS(1, 1)}, 400, BECKETHAND_NOT_A_NAME, 0, NULL);
     san("*.b", one(1, text("*.b")), 400, BECKETHAND_NOT_A_NAME, 0, NULL);
     san("10.4.0.7", one(1, text("10.4.0.7")), 400, BECKETHAND_NOT_A_NAME, 0, NULL);
     san("an empty text", one(1, text("")), 400, BECKETHAND_NOT_A_NAME, 0, NULL);
@@ -164,8 +184,10 @@ static void written_records(void) {
     record("an SRV record, a byte short", of(2, "sip", "a.b"), 319, BECKETHAND_BUFFER_TOO_SHORT);
     record("a DNS record", of(1, "", "a.b"), 320, BECKETHAND_ACCEPTED);
     record("a CN record", of(4, "", "a.b"), 320, BECKETHAND_ACCEPTED);
+    record("a URI record", of(3, "sip", "a.b"), 320, BECKETHAND_ACCEPTED);
+    record("two records", (struct list){text("a.bmc.d"), LENGTHS(0, 3, 1, 3), KINDS(1, 2)}, 650, BECKETHAND_ACCEPTED);
     record("a record of b", of(1, "", "b"), 400, BECKETHAND_NOT_A_NAME);
-    record("a record of *.b", of(1, "", "*.b"), 400, BECKETHAND_NOT_A_NAME);
+    record("a record of *.b.c", of(1, "", "*.b.c"), 400, BECKETHAND_NOT_A_NAME);
     record("a record of 10.4.0.7", of(1, "", "10.4.0.7"), 400, BECKETHAND_NOT_A_NAME);
     record("a DNS record with a service", of(1, "m", "a.b"), 400, BECKETHAND_NOT_A_NAME);
     record("kind 0", of(0, "", "a.b"), 400, BECKETHAND_NOT_A_NAME);
@@ -205,10 +227,10 @@ static struct list many(size_t count, bool bad) {
 }
 
 static void many_records(void) {
-    expect("16 records", beckethand_write_records, many(16, false), 5120, BECKETHAND_ACCEPTED, 5120, NULL);
-    expect("16 records, a byte short", beckethand_write_records, many(16, false), 5119, BECKETHAND_BUFFER_TOO_SHORT, 0, NULL);
-    expect("17 records", beckethand_write_records, many(17, false), 0, BECKETHAND_RESULT_TOO_LONG, 0, NULL);
-    expect("17 records, one bad", beckethand_write_records, many(17, true), 0, BECKETHAND_NOT_A_NAME, 0, NULL);
+    record("16 records", many(16, false), 5120, BECKETHAND_ACCEPTED);
+    record("16 records, a byte short", many(16, false), 5119, BECKETHAND_BUFFER_TOO_SHORT);
+    record("17 records", many(17, false), 0, BECKETHAND_RESULT_TOO_LONG);
+    record("17 records, one bad", many(17, true), 0, BECKETHAND_NOT_A_NAME);
 }
 
 /* what is written is read by the other calls, and matches */
