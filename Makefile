@@ -9,35 +9,37 @@
 # make times   measures the check of each crate, from nothing, as a table: seconds, memory and must-fail edits.
 
 .PHONY: help test demo check build install uninstall soak bench times
+# What writes target/ goes through tests/alone, which refuses it beside another make in this checkout.
+.NOTPARALLEL:
 
 help:
 	@sed -n 's/^# make/make/p' Makefile
 
 test:
-	@tests/run
+	@tests/alone tests/run
 
 demo:
-	@tests/demo
+	@tests/alone tests/demo
 
 check:
-	rt check
+	@tests/alone rt check
 
 build:
-	@tests/archive
-	@program/build
+	@tests/alone tests/archive
+	@tests/alone program/build
 
 # PREFIX and DESTDIR reach the script in its environment.
 install:
-	@packaging/install
+	@tests/alone packaging/install
 
 uninstall:
 	@packaging/install --remove
 
 soak:
-	@tests/second/run soak
+	@tests/alone tests/second/run soak
 
 bench:
-	@bench/run
+	@tests/alone bench/run
 
 times:
-	@tests/times
+	@tests/alone tests/times
