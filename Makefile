@@ -9,7 +9,7 @@
 # make times   measures the check of each crate, from nothing, as a table: seconds, memory and must-fail edits.
 
 .PHONY: help test demo check build install uninstall soak bench times
-# What writes target/ goes through tests/alone, which refuses it beside another make in this checkout.
+# What writes target/ goes through tests/alone, which refuses it beside another make in this checkout; so targets go one after the other.
 .NOTPARALLEL:
 
 help:
