@@ -20,7 +20,7 @@ use Rattle.rules.proofs.Marked.{s, sNames, j, jNames}
 abbrev pub dns : List ℕ
 dns = recordBytes 1 [] 63 (text "a.b") 250
 
-abbrev srv : List ℕ
+abbrev pub srv : List ℕ
 srv = recordBytes 2 (text "m") 62 (text "b.c") 250
 
 abbrev uri : List ℕ
@@ -130,6 +130,11 @@ srvPermitted = constrained srvSan srvNames (permits 0x6D) (permitted 0x6D) srv (
 abbrev pub srvBroken : Certificate
 srvBroken = constrained srvSan srvNames (permits 0x6E) (permitted 0x6E) srv (numbers 2 0 0 0 0 0)
 
+-- 6/13: "The verdict record grows a sixth number, the issuer's index": the first permits it, the second does not
+abbrev pub secondIssuer : Certificate
+secondIssuer =
+    chained srvSan srvNames (permits 0x6D ∷ permits 0x6E ∷ []) (permitted 0x6D ∷ permitted 0x6E ∷ []) srv (numbers 2 0 0 0 0 1)
+
 -- "Letting a matching DNS-ID excuse a broken SRVName": `a.b` matches, and the SRVName behind it breaks the constraints
 abbrev pub notExcused : Certificate
 notExcused =
@@ -165,6 +170,15 @@ otherForm =
     constrained (hex "30 11 A0 0F 06 08 2B 06 01 05 05 07 08 07 A0 03 16 01 6D") (srvName (text "m") ∷ [])
     (hex "30 07 A0 05 30 03 82 01 62") (subtree 0 (San.plain 0x82 (text "b")) ∷ []) srv (numbers 1 0 0 0 0 0)
 
+-- the same of a foreign otherName, whose text is no restriction, and of an empty email: one is permitted, the other excluded, and neither
+-- `a.b` nor `_m.b` breaks them
+abbrev pub otherForms : Certificate
+otherForms =
+    constrained (hex "30 27 82 03 61 2E 62 A0 12 06 08 2B 06 01 05 05 07 08 07 A0 06 16 04 5F 6D 2E 62 81 01 61 A0 09 06 01 2A A0 04 16 02 2E 62")
+    (San.plain 0x82 (text "a.b") ∷ srvName (text "_m.b") ∷ San.plain 0x81 (text "a") ∷ San.other (hex "2A") 0x16 (text ".b") ∷ [])
+    (hex "30 15 A0 0D 30 0B A0 09 06 01 2A A0 04 16 02 2E 62 A1 04 30 02 81 00")
+    (subtree 0 (San.other (hex "2A") 0x16 (text ".b")) ∷ subtree 1 (San.plain 0x81 []) ∷ []) dns (numbers 0 0 0 2 5 0)
+
 -- "URI-ID: ..": the content `a://u@b.c:1/`
 abbrev pub uriMatched : Certificate
 uriMatched =
@@ -179,6 +193,12 @@ abbrev pub lowestReference : Certificate
 lowestReference =
     bySan (hex "30 0A 82 03 63 2E 64 82 03 61 2E 62") (San.plain 0x82 (text "c.d") ∷ San.plain 0x82 (text "a.b") ∷ [])
     (dns ++ recordBytes 1 [] 63 (text "c.d") 250) (numbers 0 0 1 7 5 0)
+
+-- "lowest reference, then lowest name": both names match
+abbrev pub lowestName : Certificate
+lowestName =
+    bySan (hex "30 0E 82 05 2A 2E 62 2E 63 82 05 61 2E 62 2E 63") (San.plain 0x82 (text "*.b.c") ∷ San.plain 0x82 (text "a.b.c") ∷ [])
+    (recordBytes 1 [] 63 (text "a.b.c") 248) (numbers 0 0 0 2 7 0)
 
 -- "the witnessing pair": only the second reference matches
 abbrev pub secondReference : Certificate
@@ -202,6 +222,25 @@ abbrev pub othersPass : Certificate
 othersPass =
     bySan (hex "30 13 81 01 61 A0 08 06 01 2A A0 03 16 01 61 87 04 01 02 03 04")
     (San.plain 0x81 (text "a") ∷ San.other (hex "2A") 0x16 (text "a") ∷ San.plain 0x87 (hex "01 02 03 04") ∷ []) cn (numbers 0 0 0 4 12 0)
+
+-- "no entry tagged 82 or 86 and no SRVName": the other tags, and otherNames whose OID is an SRVName's with a byte more, and with one less.
+-- To SRV references they present no `_m.b.c`, and `_n` is permitted
+abbrev pub sealedNames : List San.GeneralName
+sealedNames =
+    San.plain 0x88 (hex "2A") ∷ San.plain 0xA3 [] ∷ San.plain 0xA4 [] ∷ San.plain 0xA5 []
+    ∷ San.other (hex "2B 06 01 05 05 07 08 07 01") 0x04 (text "_m.b.c") ∷ San.other (hex "2B 06 01 05 05 07 08") 0x04 (text "_m.b.c") ∷ []
+
+abbrev pub sealedPass : List ℕ → Verdict → Certificate
+sealedPass references numbers =
+    constrained
+    (hex "30 35 88 01 2A A3 00 A4 00 A5 00 A0 15 06 09 2B 06 01 05 05 07 08 07 01 A0 08 04 06 5F 6D 2E 62 2E 63 A0 13 06 07 2B 06 01 05 05 07 08 A0 08 04 06 5F 6D 2E 62 2E 63")
+    sealedNames (permits 0x6E) (permitted 0x6E) references numbers
+
+-- "no entry tagged 82 or 86 .., readable as a name or not": an empty URI between two emails
+abbrev pub uriBetween : Certificate
+uriBetween =
+    bySan (hex "30 08 81 01 61 86 00 81 01 61") (San.plain 0x81 (text "a") ∷ San.plain 0x86 [] ∷ San.plain 0x81 (text "a") ∷ []) cn
+    (numbers 1 0 0 0 0 0)
 
 -- "tag 0C, 13 or 16": J with another tag
 abbrev pub cnTagged : ℕ → Verdict → Certificate
@@ -389,6 +428,16 @@ fits = record {
   lent = old 1 ∷ old 2 ∷ [];
   answered = record { answer = 0; count = 1 };
   table = row 2 2 5 0 ∷ old 2 ∷ [];
+}
+
+-- as many rows are lent as it has
+abbrev pub justFits : Listing
+justFits = record {
+  refusal = 3;
+  seen = listed (row 2 2 5 0 ∷ []);
+  lent = old 1 ∷ [];
+  answered = record { answer = 0; count = 1 };
+  table = row 2 2 5 0 ∷ [];
 }
 
 -- "8 with the count needed, given exactly when that exceeds the rows lent"

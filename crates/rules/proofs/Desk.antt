@@ -1,7 +1,7 @@
 -- The other examples of documents 01 and 02, their old faults, and the smallest examples that tell their other sentences apart,
 -- computed.
-use Prim.Native.Nat.{ℕ, _<_}
-use mathlib.Core.Bool.{Bool, true, false, cond}
+use Prim.Native.Nat.{ℕ, _+_, _<_}
+use mathlib.Core.Bool.{Bool, true, false, cond, not}
 use mathlib.Core.Logic.{_↔_}
 use mathlib.Core.List.{List, [], _∷_, _++_, map}
 use lib.ListN.{length, drop, replicate}
@@ -23,7 +23,7 @@ use Rattle.rules.specs.Viewer
 use Rattle.rules.specs.declared.Row.{Row}
 use Rattle.rules.proofs.Text.{text, hex}
 use Rattle.rules.proofs.Test.{all-hold}
-use Rattle.rules.proofs.Holds.{Certificate, Example, subtree, dnsName, tested, written, verdict, refused, sanRows, subjectRows, constraintsRows, listing, All, recordBytes}
+use Rattle.rules.proofs.Holds.{Certificate, Example, subtree, dnsName, tested, written, verdict, refused, sanRows, subjectRows, constraintsRows, listing, All, recordBytes, passing}
 use Rattle.rules.proofs.Joined.{dotted}
 use Rattle.rules.proofs.Certificates
 use Rattle.rules.proofs.Certificates.{letters, attribute, side}
@@ -37,6 +37,13 @@ abbrev shows : List ℕ → ℕ → ℕ → ℕ → ℕ → ℕ → Example
 shows b i answer kind service domain =
     let r = Records.shown b i in
     written (r .answer ∷ r .kind ∷ r .service ∷ r .domain ∷ []) (answer ∷ kind ∷ service ∷ domain ∷ [])
+
+-- all numbers of a verdict: its six, and the start and the length of the witness's text
+abbrev told : Certificate → List ℕ → Example
+told c numbers =
+    let n = Verdict.allNumbers (Certificates.outcome c) in
+    written
+    (n .answer ∷ n .reference ∷ n .presented ∷ n .start ∷ n .length ∷ n .issuer ∷ n .«text_start» ∷ n .«text_length» ∷ []) numbers
 
 -- the witness's text, and where it lies; the SAN lies in block 1 and the subject in block 2
 abbrev witness : Certificate → List ℕ → ℕ → ℕ → List Example
@@ -66,7 +73,9 @@ domains =
     ∷ tested (Names.domain (text "a.")) false
     ∷ tested (Names.domain (text "a..b")) false
     ∷ tested (Names.domain []) false
-    ∷ tested (Names.domain (text "a_b")) false
+    -- "A label has letters, digits and hyphens", "joined by single dots": of all bytes, those that may stand between two letters
+    ∷ written (passing (λ b. Names.domain (0x61 ∷ b ∷ 0x61 ∷ [])))
+    (text "-.0123456789ABCDEFGHIJKLMNOPQRSTUVWXYZabcdefghijklmnopqrstuvwxyz")
     -- 2/13: "the last label of a domain may not be all digits", and no other label is judged by it
     ∷ tested (Names.domain (text "10.4.0.7")) false
     ∷ tested (Names.domain (text "4.example")) true
@@ -91,7 +100,11 @@ domains =
     ∷ tested (Names.dnsId (text "*.a.b")) true
     -- "Letters compare without case": no byte beside A to Z folds
     ∷ dnsName (text "A.Z") (text "a.z") true
-    ∷ tested (Names.sameText (text "@[") (hex "60 7B")) false
+    ∷ written (passing (λ b. Names.sameText (b ∷ []) ((b + 32) ∷ []))) (text "ABCDEFGHIJKLMNOPQRSTUVWXYZ")
+    -- "`*` stands for exactly one whole label of the reference"; "an xn-- label is compared like any other"
+    ∷ dnsName (text "*.b.c") (text "xn--a.b.c") true
+    ∷ dnsName (text "*.b.c") (text "7.b.c") true
+    ∷ dnsName (text "XN--a.b") (text "xn--A.b") true
     ∷ []
 
 abbrev services : List Example
@@ -104,12 +117,15 @@ services =
     ∷ tested (Names.srvId (text "_a-.b")) false
     ∷ tested (Names.srvId (text "_.b")) false
     ∷ tested (Names.srvId (text "_a")) false
+    -- "a domain without wildcard"
     ∷ tested (Names.srvId (text "_a.*.b")) false
+    ∷ tested (Names.srvId (text "_a.*.b.c")) false
     -- "one of three texts: `_service`, `_service.domain`, `domain`"
     ∷ tested (Names.restriction (text "_a")) true
     ∷ tested (Names.restriction (text "_a.b")) true
     ∷ tested (Names.restriction (text "b")) true
     ∷ tested (Names.restriction (text ".b")) false
+    ∷ tested (Names.restriction (text "*.b.c")) false
     -- 2/13: an address is no domain here either; `_7` has a service alone
     ∷ tested (Names.srvId (text "_m.10.4.0.7")) false
     ∷ tested (Names.srvId (text "_7.a.b")) true
@@ -118,9 +134,12 @@ services =
     ∷ tested (Names.restriction (text "_7")) true
     -- "Service or scheme and domain must both match, without case."
     ∷ tested (Names.srvMatches (text "m") (text "B.c") (text "_M.b.C")) true
+    ∷ tested (Names.srvMatches (text "M") (text "b") (text "_m.b")) true
     ∷ tested (Names.srvMatches (text "n") (text "b") (text "_m.b")) false
     ∷ tested (Names.srvMatches (text "m") (text "c") (text "_m.b")) false
     ∷ tested (Names.srvMatches (text "m") (text "b") (text "_m.x.b")) false
+    -- "It lies in a subtree if the service is equal, without case, .. and the subtree's labels are the last labels of its domain"
+    ∷ subtree (text "_MAil.Example.COM") (text "_maIL.eXample.com") true
     ∷ []
 
 abbrev uris : List Example
@@ -131,6 +150,7 @@ uris =
     ∷ tested (Names.scheme (text "a+-.1")) true
     ∷ tested (Names.scheme (text "1a")) false
     ∷ tested (Names.scheme []) false
+    ∷ written (passing (λ b. Names.scheme (0x61 ∷ b ∷ []))) (text "+-.0123456789ABCDEFGHIJKLMNOPQRSTUVWXYZabcdefghijklmnopqrstuvwxyz")
     -- an authority up to each of its ends, with a user part, with a port
     ∷ tested (Names.uriId (text "a://b")) true
     ∷ tested (Names.uriId (text "a://b/@c")) true
@@ -145,6 +165,7 @@ uris =
     ∷ tested (Names.uriId (text "a:/b")) false
     ∷ tested (Names.uriId (text "a:b")) false
     ∷ tested (Names.uriId (text "a://*.b")) false
+    ∷ tested (Names.uriId (text "a://*.b.c")) false
     ∷ tested (Names.uriId (text "://b")) false
     ∷ tested (Names.uriId (text "a://u@")) false
     -- 2/13: the host is a domain, the port no label of it
@@ -152,6 +173,7 @@ uris =
     ∷ tested (Names.uriId (text "x://a.b:7")) true
     -- "Service or scheme and domain must both match, without case."
     ∷ tested (Names.uriMatches (text "a-z") (text "b.C") (text "A-Z://u@B.c:1?d")) true
+    ∷ tested (Names.uriMatches (text "A") (text "b") (text "a://b")) true
     ∷ tested (Names.uriMatches (text "c") (text "b") (text "a://b")) false
     ∷ tested (Names.uriMatches (text "a") (text "c") (text "a://b")) false
     ∷ tested (Names.uriMatches (text "a") (text "x.b") (text "a://b")) false
@@ -171,10 +193,13 @@ records =
     ∷ tested (Records.goodRecords (1 ∷ 1 ∷ drop 2 (recordBytes 1 [] 63 (text "b.c") 250))) false
     -- "each filled with zeros"
     ∷ tested (Records.goodRecords (1 ∷ 0 ∷ 0 ∷ 3 ∷ 1 ∷ drop 5 (recordBytes 1 [] 63 (text "b.c") 250))) false
+    -- "Bytes .. 67 to 319 domain": 253 bytes, of which the record says that they are 254
+    ∷ tested (Records.goodRecords (1 ∷ 0 ∷ 0 ∷ 254 ∷ (replicate 63 0 ++ labelled 63 63 63 61))) false
     -- "Kinds 1 and 4 have service length 0. Kind 2: a service .., 1 to 62 bytes. Kind 3: a URI scheme .., 1 to 63 bytes."
     ∷ tested (Records.goodRecords (recordBytes 1 (text "a") 62 (text "b.c") 250)) false
     ∷ tested (Records.goodRecords (recordBytes 4 (text "a") 62 (text "b.c") 250)) false
     ∷ tested (Records.goodRecords (recordBytes 2 [] 63 (text "b.c") 250)) false
+    ∷ tested (Records.goodRecords (recordBytes 2 (text "_m") 61 (text "b.c") 250)) false
     ∷ tested (Records.goodRecords (recordBytes 2 (letters 62) 1 (text "b.c") 250)) true
     ∷ tested (Records.goodRecords (recordBytes 2 (letters 63) 0 (text "b.c") 250)) false
     ∷ tested (Records.goodRecords (recordBytes 3 [] 63 (text "b.c") 250)) false
@@ -200,6 +225,9 @@ records =
     ∷ shows (recordBytes 2 (text "m") 62 (text "a.b") 250) 0 0 2 1 3
     ∷ shows (recordBytes 2 (text "m") 62 (text "a.b") 250) 1 0 0 0 0
     ∷ shows [] 0 6 0 0 0
+    -- "7, then 6, else 0": the last of 16 records, and one byte more than they have
+    ∷ shows (Der.run (λ b. b) (replicate 15 Certificates.dns) ++ Certificates.cn) 15 0 4 0 3
+    ∷ shows (replicate 5121 0) 0 7 0 0 0
     ∷ []
 
 -- ---- the grammar
@@ -216,14 +244,15 @@ generalNames =
     ∷ tested (San.goodName (San.plain 0x82 (hex "7F 80"))) false
     ∷ tested (San.goodName (San.plain 0x86 (hex "7F 80"))) false
     ∷ tested (San.goodName (San.plain 0x86 (hex "00 7F"))) true
-    ∷ tested (San.goodName (San.plain 0x87 (hex "80"))) true
-    ∷ tested (San.goodName (San.plain 0x83 [])) false
-    ∷ tested (San.goodName (San.plain 0xA1 [])) false
-    ∷ tested (San.goodName (San.plain 0x16 [])) false
+    ∷ written (passing (λ t. San.goodName (San.plain t []))) (hex "81 82 86 87 88 A3 A4 A5")
+    ∷ written (passing (λ t. San.goodName (San.plain t (hex "FF")))) (hex "87 88 A3 A4 A5")
+    ∷ tested (San.goodName (San.plain 0x87 (replicate 5 0))) true
+    ∷ tested (San.goodName (San.plain 0x87 (replicate 17 0))) true
     -- "an OID element (tag 06, content not empty)"; "low five bits all ones is unreadable"
     ∷ tested (San.goodName (San.other [] 0x04 [])) false
-    ∷ tested (San.goodName (San.other (hex "2A") 0x3F [])) false
-    ∷ tested (San.goodName (San.other (hex "2A") 0x00 [])) true
+    ∷ tested (San.goodName (San.other (hex "2A 80") 0x0C (hex "FF"))) true
+    ∷ tested (San.goodName (San.other (hex "80 01") 0x0C [])) true
+    ∷ written (passing (λ t. not (San.goodName (San.other (hex "2A") t [])))) (hex "1F 3F 5F 7F 9F BF DF FF")
     -- "that inner element has tag 16, at least one byte, all below 128"
     ∷ tested (San.goodName (San.other San.srvOid 0x0C (text "_m"))) false
     ∷ tested (San.goodName (San.other San.srvOid 0x16 [])) false
@@ -237,10 +266,14 @@ groups =
     -- "zero or more sets (31), each of one or more attributes (30) of one OID element and one value element"
     tested (Subject.subjectGrammar .good []) true
     ∷ tested (Subject.subjectGrammar .good (attribute 0 [] 0x0C [] ∷ [])) false
-    ∷ tested (Subject.subjectGrammar .good (attribute 0 (hex "2A") 0x1F [] ∷ [])) false
+    ∷ written (passing (λ t. not (Subject.subjectGrammar .good (attribute 0 (hex "2A") t [] ∷ [])))) (hex "1F 3F 5F 7F 9F BF DF FF")
     -- "numbered from 0 without a gap"
     ∷ tested (Subject.subjectGrammar .good (attribute 1 (hex "2A") 0x0C [] ∷ [])) false
     ∷ tested (Subject.subjectGrammar .good (attribute 0 (hex "2A") 0x0C [] ∷ attribute 2 (hex "2A") 0x0C [] ∷ [])) false
+    -- "The CN's OID content is 55 04 03": a byte more, and one less; "tag 0C, 13 or 16"
+    ∷ tested (Subject.isCn (attribute 0 (hex "55 04 03 01") 0x0C [] .value)) false
+    ∷ tested (Subject.isCn (attribute 0 (hex "55 04") 0x0C [] .value)) false
+    ∷ written (passing Subject.cnTag) (hex "0C 13 16")
     -- "in ascending byte order, equal ones allowed"
     ∷ tested (Subject.subjectGrammar .good (attribute 0 (hex "2A") 0x0C [] ∷ attribute 0 (hex "2A") 0x0C [] ∷ [])) true
     ∷ tested (Subject.subjectGrammar .good (attribute 0 (hex "2B") 0x0C [] ∷ attribute 0 (hex "2A") 0x0C [] ∷ [])) false
@@ -269,19 +302,25 @@ verdicts =
     ∷ verdict Certificates.srvMatches
     ∷ verdict Certificates.srvPermitted
     ∷ verdict Certificates.srvBroken
+    ∷ verdict Certificates.secondIssuer
     ∷ verdict Certificates.notExcused
     ∷ verdict Certificates.srvExcluded
     ∷ verdict Certificates.srvNotExcluded
     ∷ verdict Certificates.noSrvId
     ∷ verdict Certificates.otherForm
+    ∷ verdict Certificates.otherForms
     ∷ verdict Certificates.uriMatched
     ∷ verdict Certificates.otherKind
     ∷ verdict Certificates.lowestReference
+    ∷ verdict Certificates.lowestName
     ∷ verdict Certificates.secondReference
     ∷ verdict Certificates.badFill
     ∷ verdict Certificates.uriBlocks
     ∷ verdict Certificates.srvBlocks
     ∷ verdict Certificates.othersPass
+    ∷ verdict (Certificates.sealedPass Certificates.cn (numbers 0 0 0 4 12 0))
+    ∷ verdict (Certificates.sealedPass Certificates.srv (numbers 1 0 0 0 0 0))
+    ∷ verdict Certificates.uriBetween
     ∷ verdict (Certificates.cnTagged 0x13 (numbers 0 0 0 4 12 0))
     ∷ verdict (Certificates.cnTagged 0x16 (numbers 0 0 0 4 12 0))
     ∷ verdict (Certificates.cnTagged 0x14 (numbers 1 0 0 0 0 0))
@@ -337,14 +376,24 @@ witnesses =
     ++ (witness Certificates.cnMatches (text "a.b") 2 13
     ++ (witness Certificates.srvBroken [] 1 0 ++ (witness Certificates.badFill [] 1 0 ++ witness Certificates.cnBlocked [] 1 0)))))
 
+-- "answer, reference index, presented index, start, length", the issuer's index, and that part's start and length
+abbrev allNumbers : List Example
+allNumbers =
+    told Certificates.secondReference (0 ∷ 1 ∷ 0 ∷ 2 ∷ 5 ∷ 0 ∷ 4 ∷ 3 ∷ [])
+    ∷ told Certificates.secondSet (0 ∷ 0 ∷ 1 ∷ 18 ∷ 12 ∷ 0 ∷ 27 ∷ 3 ∷ [])
+    ∷ told Certificates.secondIssuer (2 ∷ 0 ∷ 0 ∷ 0 ∷ 0 ∷ 1 ∷ 0 ∷ 0 ∷ [])
+    ∷ []
+
 -- ---- listings
 
 abbrev listings : List Example
 listings =
     sanRows Certificates.sanListed
+    ∷ written (map San.nameKind Certificates.sealedNames) (8 ∷ 3 ∷ 4 ∷ 5 ∷ 0 ∷ 0 ∷ [])
     ∷ subjectRows Certificates.subjectListed
     ∷ constraintsRows Certificates.constraintsListed
     ∷ listing Certificates.fits
+    ∷ listing Certificates.justFits
     ∷ listing Certificates.tooShort
     ∷ listing Certificates.long
     ∷ listing Certificates.unread
@@ -352,10 +401,10 @@ listings =
 
 abbrev pub table : List Example
 table =
-    domains ++ (services ++ (uris ++ (records ++ (generalNames ++ (groups ++ (absences ++ (verdicts ++ (refusals ++ (witnesses ++ listings)))))))))
+    domains ++ (services ++ (uris ++ (records ++ (generalNames ++ (groups ++ (absences ++ (verdicts ++ (refusals ++ (witnesses ++ (allNumbers ++ listings))))))))))
 
 pub desk : All table
-unfolding part same begins before after ascii upTo Names.letter Names.digit Names.letterDigitHyphen Names.lower Names.sameText Names.ldh Names.label Names.longer Names.labels Names.lastOf Names.domain Names.twoLabels Names.sameLabels Names.sameDomain Names.wildcard Names.dnsId Names.leftmostMatches Names.labelsMatch Names.dnsMatches Names.dnsRestriction Names.subtreeLabels Names.dnsWithin Names.oneLabelThen Names.dnsReaches Names.service Names.serviceOf Names.domainOf Names.srvId Names.srvMatches Names.restriction Names.givenService Names.givenDomain Names.lastLabels Names.domainWithin Names.inSubtree Names.schemeByte Names.scheme Names.schemeOf Names.authorityEnd Names.authorityOf Names.hostAndPort Names.hostOf Names.portOf Names.uriId Names.uriMatches Records.referenceOf Records.filled Records.goodService Records.goodReference Records.goodRecord Records.split Records.recordsOf Records.goodRecords Records.referencesOf Der.lengthBytes Der.element Der.header Der.run Der.push Der.groups Der.rowsOfMembers Der.rowsOfGroups San.tagOf San.contentOf San.writeName San.sealed San.goodValue San.goodSrvName San.goodName San.nameKind San.rowsOfNames Subject.writeAttribute Subject.goodAttribute Subject.writeSet Subject.goodSet Subject.numbered Subject.isCn Subject.attributeKind Subject.attributeRow Seen.together Seen.seenRecords Matching.taggedText Matching.srvText Matching.entryText Matching.soleCn Matching.cnText Matching.blocksCn Matching.presentedIn Matching.presentedTo Matching.textMatches Matching.matches Matching.firstPair Matching.subtreesOf Matching.allowed Matching.breaksAs Matching.breaks Matching.firstBroken Matching.firstBreach Verdict.witnessOf Verdict.judged Verdict.outcomeOf Verdict.numbersOf Verdict.verdictOf Constraints.goodRestriction Constraints.goodSubtree Constraints.writeSubtree Constraints.writeSide Constraints.goodSide Constraints.subtreeRow Listing.listedOf Listing.tableAfter Records.shownAt Records.shown Verdict.witnessText Verdict.witnessPlace Verdict.witnessPart
+unfolding part same begins before after ascii upTo Names.letter Names.digit Names.letterDigitHyphen Names.lower Names.sameText Names.ldh Names.label Names.longer Names.labels Names.lastOf Names.domain Names.twoLabels Names.sameLabels Names.sameDomain Names.wildcard Names.dnsId Names.leftmostMatches Names.labelsMatch Names.dnsMatches Names.dnsRestriction Names.subtreeLabels Names.dnsWithin Names.oneLabelThen Names.dnsReaches Names.service Names.serviceOf Names.domainOf Names.srvId Names.srvMatches Names.restriction Names.givenService Names.givenDomain Names.lastLabels Names.domainWithin Names.inSubtree Names.schemeByte Names.scheme Names.schemeOf Names.authorityEnd Names.authorityOf Names.hostAndPort Names.hostOf Names.portOf Names.uriId Names.uriMatches Records.referenceOf Records.filled Records.goodService Records.goodReference Records.goodRecord Records.split Records.recordsOf Records.goodRecords Records.referencesOf Der.lengthBytes Der.element Der.header Der.run Der.push Der.groups Der.rowsOfMembers Der.rowsOfGroups San.tagOf San.contentOf San.writeName San.sealed San.goodValue San.goodSrvName San.goodName San.nameKind San.rowsOfNames Subject.writeAttribute Subject.goodAttribute Subject.writeSet Subject.goodSet Subject.numbered Subject.isCn Subject.attributeKind Subject.attributeRow Seen.together Seen.seenRecords Matching.taggedText Matching.srvText Matching.entryText Matching.soleCn Matching.cnText Matching.blocksCn Matching.presentedIn Matching.presentedTo Matching.textMatches Matching.matches Matching.firstPair Matching.subtreesOf Matching.allowed Matching.breaksAs Matching.breaks Matching.firstBroken Matching.firstBreach Verdict.witnessOf Verdict.judged Verdict.outcomeOf Verdict.numbersOf Verdict.verdictOf Constraints.goodRestriction Constraints.goodSubtree Constraints.writeSubtree Constraints.writeSide Constraints.goodSide Constraints.subtreeRow Listing.listedOf Listing.tableAfter Records.shownAt Records.shown Verdict.witnessText Verdict.witnessPlace Verdict.witnessPart Verdict.allNumbers
 desk = all-hold table tt
 
 -- ---- 3/13: the viewer

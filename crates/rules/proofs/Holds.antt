@@ -1,7 +1,7 @@
 -- What an example of document 01 says about the rules.
-use Prim.Native.Nat.{ℕ}
+use Prim.Native.Nat.{ℕ, zero, suc}
 use mathlib.Core.Path.{_≡_}
-use mathlib.Core.Bool.{Bool, false}
+use mathlib.Core.Bool.{Bool, true, false}
 use mathlib.Core.List.{List, [], _∷_, _++_, map}
 use lib.ListN.{length, replicate}
 use lib.Dec.{T}
@@ -108,6 +108,19 @@ All [] = Unit
 All (e ∷ es) = Holds e × All es
 
 -- ---- what the examples are made of
+
+abbrev pub keep : Bool → ℕ → List ℕ → List ℕ
+keep true b l = b ∷ l
+keep false b l = l
+
+-- of the n bytes from b on, those that pass a test
+abbrev pub passingFrom : (ℕ → Bool) → ℕ → ℕ → List ℕ
+passingFrom p zero b = []
+passingFrom p (suc n) b = keep (p b) b (passingFrom p n (suc b))
+
+-- of all bytes
+abbrev pub passing : (ℕ → Bool) → List ℕ
+passing p = passingFrom p 256 0
 
 -- the bytes of one record: kind, service and domain, each field filled with zeros to its end
 abbrev pub recordBytes : ℕ → List ℕ → ℕ → List ℕ → ℕ → List ℕ

@@ -22,7 +22,7 @@ use Rattle.rules.specs.Verdict
 use Rattle.rules.specs.Verdict.{numbers}
 use Rattle.rules.proofs.Text.{text, hex}
 use Rattle.rules.proofs.Test.{all-hold}
-use Rattle.rules.proofs.Holds.{Example, tested, written, verdict, refused, All}
+use Rattle.rules.proofs.Holds.{Example, tested, written, verdict, refused, All, passing}
 use Rattle.rules.proofs.Marked.{s, sNames, jNames}
 use Rattle.rules.proofs.Certificates.{dns, chained}
 
@@ -103,6 +103,12 @@ subtrees =
     -- "an empty text contains every name"
     ab sNames (permits (dnsName "") ∷ []) (0 ∷ 0 ∷ 0 ∷ 2 ∷ 5 ∷ 0 ∷ [])
     ∷ ab sNames (excludes (dnsName "") ∷ []) (2 ∷ 0 ∷ 0 ∷ 0 ∷ 0 ∷ 0 ∷ [])
+    -- "lie in no excluded .. subtree, and, if any permitted .. subtree exists, lie in one"
+    ∷ ab sNames ((permits (dnsName "a.b") ++ permits (dnsName "c")) ∷ []) (0 ∷ 0 ∷ 0 ∷ 2 ∷ 5 ∷ 0 ∷ [])
+    ∷ ab sNames ((excludes (dnsName "c") ++ excludes (dnsName "a.b")) ∷ []) (2 ∷ 0 ∷ 0 ∷ 0 ∷ 0 ∷ 0 ∷ [])
+    ∷ ab sNames ((permits (dnsName "b") ++ excludes (dnsName "a.b")) ∷ []) (2 ∷ 0 ∷ 0 ∷ 0 ∷ 0 ∷ 0 ∷ [])
+    -- "zero or more labels added on the left"; "Letters compare without case, label by label"
+    ∷ tested (Names.dnsWithin (text "a.B") (text "x.A.b")) true
     -- "A wildcard name lies in a subtree if the subtree's labels are its last labels, the star taken as an ordinary label"
     ∷ allowed (permits (dnsName "a.b"))
     ∷ allowed (permits (dnsName "b"))
@@ -111,8 +117,11 @@ subtrees =
     ∷ broken (excludes (dnsName "a.b"))
     -- "It also breaks an excluded subtree made of one label and then the text after `*.`"
     ∷ broken (excludes (dnsName "X.A.B"))
+    ∷ tested (Names.dnsReaches (text "x.a.B") (text "*.A.b")) true
     ∷ allowed (excludes (dnsName "y.x.a.b"))
     ∷ allowed (excludes (dnsName "xa.b"))
+    -- .. and a name without a wildcard does not
+    ∷ ab sNames (excludes (dnsName "x.b") ∷ []) (0 ∷ 0 ∷ 0 ∷ 2 ∷ 5 ∷ 0 ∷ [])
     ∷ (noDnsId "" ++ (noDnsId "*" ++ (noDnsId "*.b" ++ noDnsId "10.4.0.7")))
 
 -- "any other text must be a domain, else 5": of a dNSName, and of no other form
@@ -124,7 +133,11 @@ restrictions =
     ∷ tested (Constraints.constraintsGrammar .good (excludes (dnsName "b."))) false
     ∷ tested (Constraints.constraintsGrammar .good (excludes (dnsName "*.b.c"))) false
     ∷ tested (Constraints.constraintsGrammar .good (permits (dnsName "7"))) false
-    ∷ tested (Constraints.constraintsGrammar .good (permits (plain 0x81 (text ".b")))) true
+    ∷ written (passing (λ t. Constraints.constraintsGrammar .good (permits (plain t (text ".b"))))) (hex "81 86 87 88 A3 A4 A5")
+    ∷ written (passing (λ t. Constraints.constraintsGrammar .good (permits (plain t [])))) (hex "81 82 86 87 88 A3 A4 A5")
+    -- "If the OID is the eight bytes": a ninth, and one less
+    ∷ tested (Constraints.constraintsGrammar .good (permits (other (hex "2B 06 01 05 05 07 08 07 01") 0x16 (text ".b")))) true
+    ∷ tested (Constraints.constraintsGrammar .good (permits (other (hex "2B 06 01 05 05 07 08") 0x16 (text ".b")))) true
     ∷ []
 
 -- ---- strings and their lengths
@@ -168,5 +181,5 @@ strings =
     ∷ []
 
 pub issuers : All (chains ++ (subtrees ++ (restrictions ++ strings)))
-unfolding part same begins before after ascii upTo Names.letter Names.digit Names.letterDigitHyphen Names.lower Names.sameText Names.ldh Names.label Names.longer Names.labels Names.lastOf Names.domain Names.twoLabels Names.sameLabels Names.sameDomain Names.wildcard Names.dnsId Names.leftmostMatches Names.labelsMatch Names.dnsMatches Names.dnsRestriction Names.subtreeLabels Names.dnsWithin Names.oneLabelThen Names.dnsReaches Names.service Names.serviceOf Names.domainOf Names.srvId Names.givenService Names.givenDomain Names.lastLabels Names.domainWithin Names.inSubtree Names.schemeByte Names.scheme Names.schemeOf Names.authorityEnd Names.authorityOf Names.hostAndPort Names.hostOf Names.portOf Names.uriId Names.uriMatches Records.referenceOf Records.filled Records.goodService Records.goodReference Records.goodRecord Records.split Records.recordsOf Records.goodRecords Records.referencesOf Der.lengthBytes Der.element Der.header Der.run Der.push Der.groups Der.rowsOfMembers Der.rowsOfGroups San.tagOf San.contentOf San.writeName San.sealed San.goodValue San.goodSrvName San.goodName San.nameKind San.rowsOfNames Subject.writeAttribute Subject.goodAttribute Subject.writeSet Subject.goodSet Subject.numbered Subject.isCn Subject.attributeKind Subject.attributeRow Constraints.goodRestriction Constraints.goodSubtree Constraints.writeSubtree Constraints.writeSide Constraints.goodSide sum Seen.lengthsFit cut Seen.stringsOf Seen.lengthsFromC Seen.stringsBy Seen.together Seen.seenRecords Matching.taggedText Matching.srvText Matching.entryText Matching.soleCn Matching.cnText Matching.blocksCn Matching.presentedIn Matching.presentedTo Matching.textMatches Matching.matches Matching.firstPair Matching.subtreesOf Matching.allowed Matching.breaksAs Matching.breaks Matching.firstBroken Matching.firstBreach Verdict.witnessOf Verdict.judged Verdict.outcomeOf Verdict.numbersOf Verdict.verdictOf
+unfolding part same begins before after ascii upTo Names.letter Names.digit Names.letterDigitHyphen Names.lower Names.sameText Names.ldh Names.label Names.longer Names.labels Names.lastOf Names.domain Names.twoLabels Names.sameLabels Names.sameDomain Names.wildcard Names.dnsId Names.leftmostMatches Names.labelsMatch Names.dnsMatches Names.dnsRestriction Names.subtreeLabels Names.dnsWithin Names.oneLabelThen Names.dnsReaches Names.service Names.serviceOf Names.domainOf Names.srvId Names.restriction Names.givenService Names.givenDomain Names.lastLabels Names.domainWithin Names.inSubtree Names.schemeByte Names.scheme Names.schemeOf Names.authorityEnd Names.authorityOf Names.hostAndPort Names.hostOf Names.portOf Names.uriId Names.uriMatches Records.referenceOf Records.filled Records.goodService Records.goodReference Records.goodRecord Records.split Records.recordsOf Records.goodRecords Records.referencesOf Der.lengthBytes Der.element Der.header Der.run Der.push Der.groups Der.rowsOfMembers Der.rowsOfGroups San.tagOf San.contentOf San.writeName San.sealed San.goodValue San.goodSrvName San.goodName San.nameKind San.rowsOfNames Subject.writeAttribute Subject.goodAttribute Subject.writeSet Subject.goodSet Subject.numbered Subject.isCn Subject.attributeKind Subject.attributeRow Constraints.goodRestriction Constraints.goodSubtree Constraints.writeSubtree Constraints.writeSide Constraints.goodSide sum Seen.lengthsFit cut Seen.stringsOf Seen.lengthsFromC Seen.stringsBy Seen.together Seen.seenRecords Matching.taggedText Matching.srvText Matching.entryText Matching.soleCn Matching.cnText Matching.blocksCn Matching.presentedIn Matching.presentedTo Matching.textMatches Matching.matches Matching.firstPair Matching.subtreesOf Matching.allowed Matching.breaksAs Matching.breaks Matching.firstBroken Matching.firstBreach Verdict.witnessOf Verdict.judged Verdict.outcomeOf Verdict.numbersOf Verdict.verdictOf
 issuers = all-hold (chains ++ (subtrees ++ (restrictions ++ strings))) tt

@@ -63,6 +63,11 @@ sanValues =
     ∷ refuses sanWriter (one 1 (text "10.4.0.7")) 22
     ∷ refuses sanWriter (one 1 (text "_m.b.c")) 22
     ∷ refuses sanWriter (one 2 (text "a.b")) 22
+    ∷ refuses sanWriter (one 2 (text "_m")) 22
+    ∷ refuses sanWriter (one 2 (text "_m.7")) 22
+    ∷ refuses sanWriter (one 2 (text "_m-.b")) 22
+    ∷ refuses sanWriter (one 3 (text "a.b")) 22
+    ∷ refuses sanWriter (one 3 (text "sip:a.b")) 22
     ∷ refuses sanWriter (one 1 []) 22
     -- "or has a byte above 127": these are URI-IDs
     ∷ tested (Names.uriId (text "sip://a.b/" ++ hex "C3 A9")) true
@@ -74,6 +79,7 @@ sanValues =
     ∷ refuses sanWriter (request [] [] []) 21
     ∷ refuses sanWriter (request (1 ∷ []) (3 ∷ 0 ∷ []) (text "a.b")) 22
     ∷ refuses sanWriter (request (1 ∷ []) (2 ∷ []) (text "a.b")) 22
+    ∷ refuses sanWriter (request (1 ∷ []) (1 ∷ []) (text "a.b")) 22
     ∷ refuses sanWriter (request (1 ∷ 1 ∷ []) (18446744073709551615 ∷ 4 ∷ []) (text "a.b")) 22
     ∷ refuses sanWriter (one 0 (text "a.b")) 22
     ∷ refuses sanWriter (one 4 (text "a.b")) 22
