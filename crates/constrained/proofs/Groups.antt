@@ -13,7 +13,7 @@ use Rattle.rules.specs.Bytes.{some?, all, chain}
 use Rattle.rules.specs.Der.{Member, Group}
 use Rattle.rules.specs.San.{GeneralName}
 use Rattle.rules.specs.Constraints.{permitted, excluded, good_subtree}
-use Rattle.rules.specs.Matching.{with_some, subtrees_of}
+use Rattle.rules.specs.Matching.{with_some, Form, subtrees_of}
 use Rattle.reading.specs.Reader.{numbered_by, raw, items}
 use Rattle.reading.specs.Strings.{flat, read_subtree, read_side, rising, read_sides, read_constraints}
 use Rattle.reading.specs.Answers.{then_some, when_some, and_parts, all_weaken}
@@ -35,12 +35,12 @@ with_append : (o : Option (List ℕ)) (x y : List (List ℕ)) → with_some o (x
 with_append none x y = refl
 with_append (some c) x y = refl
 
-module _ (form : GeneralName → Option (List ℕ)) where
+module _ (form : Form) where
   -- the names of the side
   own_texts : (k : ℕ) (m : List GeneralName) (l : List (Member GeneralName)) → subtrees_of form k (members k m ++ l) ≡ texts_of form m ++ subtrees_of form k l
   unfolding subtrees_of texts_of
   own_texts k [] l = refl
-  own_texts k (n ∷ m) l = rw (eq-eqb k k refl, own_texts k m l) (with_append (form n) (texts_of form m) (subtrees_of form k l))
+  own_texts k (n ∷ m) l = rw (eq-eqb k k refl, own_texts k m l) (with_append (form.text n) (texts_of form m) (subtrees_of form k l))
 
   -- the names of another side
   other_texts : (k j : ℕ) (m : List GeneralName) (l : List (Member GeneralName)) → (j ≡ k → ⊥) → subtrees_of form k (members j m ++ l) ≡ subtrees_of form k l
@@ -77,7 +77,7 @@ second_side g x gs a c =
     let n : 0 < x.number = omega (arith, ltb→lt g.number x.number r.0) in
     (omega (arith, ltb→lt x.number 2 q.0), last_side x gs p.1 r.1 n)
 
-module _ (form : GeneralName → Option (List ℕ)) where
+module _ (form : Form) where
   -- the texts of each side, where there is one side
   one_own : (g : Group GeneralName) → subtrees_of form g.number (flat (g ∷ [])) ≡ texts_of form g.members
   unfolding flat
@@ -103,7 +103,7 @@ record SideAt (s : List ℕ) (t b n : ℕ) (g : Group GeneralName) : Type 0 wher
   number_is : t ≡ 0xA0 + g.number
   low : g.number < 2
   readable : Readable read_subtree s b n
-  texts : (form : GeneralName → Option (List ℕ)) → texts_in form s b n ≡ texts_of form g.members
+  texts : (form : Form) → texts_in form s b n ≡ texts_of form g.members
 
 -- a side that is read is found so
 side_at_lem : (s : List ℕ) (t b n : ℕ) (g : Group GeneralName) → read_side (raw t (slice b n s)) ≡ some g → SideAt s t b n g
@@ -126,7 +126,7 @@ side_at_lem s t b n g e =
     }
 
 -- a side with no subtrees
-no_side : (s : List ℕ) (k : ℕ) → ((form : GeneralName → Option (List ℕ)) → subtrees_of form k (names_of read_constraints s) ≡ []) → Side s k 0 0
+no_side : (s : List ℕ) (k : ℕ) → ((form : Form) → subtrees_of form k (names_of read_constraints s) ≡ []) → Side s k 0 0
 unfolding texts_in texts_of
 no_side s k e = record {
   subtrees = record { order = omega arith; fits = omega arith; readable = no_run read_subtree s 0 };
@@ -135,7 +135,7 @@ no_side s k e = record {
 
 -- a side with the subtrees of a group
 one_side : (s : List ℕ) (k t b n : ℕ) (g : Group GeneralName) → SideAt s t b n g → b ≤ n → n ≤ length s
-    → ((form : GeneralName → Option (List ℕ)) → subtrees_of form k (names_of read_constraints s) ≡ texts_of form g.members) → Side s k b n
+    → ((form : Form) → subtrees_of form k (names_of read_constraints s) ≡ texts_of form g.members) → Side s k b n
 one_side s k t b n g w h fits e = record {
   subtrees = record { order = h; fits = fits; readable = w.readable };
   texts = λ form. w.texts form ∙ sym (e form);

@@ -31,16 +31,16 @@ all_at p (x ∷ l) zero h e = and_left (p x) (all p l) e
 all_at p (x ∷ l) (suc k) h e = all_at p l k (omega arith) (and_right (p x) (all p l) e)
 
 -- what is left of the strings, which count from k, finds what all find
-unfoldable pub BreachLeft : Bool → List ℕ → List ℕ → List ℕ → ℕ → Type 0
-BreachLeft half san lengths bytes k =
-    first_breach half k (map (names_of read_constraints) (drop k (strings_in lengths bytes))) (names_of read_san san)
-    ≡ first_breach half 0 (map (names_of read_constraints) (strings_in lengths bytes)) (names_of read_san san)
+unfoldable pub BreachLeft : List ℕ → List ℕ → List ℕ → ℕ → Type 0
+BreachLeft san lengths bytes k =
+    first_breach k (map (names_of read_constraints) (drop k (strings_in lengths bytes))) (names_of read_san san)
+    ≡ first_breach 0 (map (names_of read_constraints) (strings_in lengths bytes)) (names_of read_san san)
 
-module _ (half : Bool) (san lengths bytes : List ℕ) where
+module _ (san lengths bytes : List ℕ) where
   abbrev answer : Breached
-  answer = breach_of (first_breach half 0 (map (names_of read_constraints) (strings_in lengths bytes)) (names_of read_san san))
+  answer = breach_of (first_breach 0 (map (names_of read_constraints) (strings_in lengths bytes)) (names_of read_san san))
 
-  pub breach_begin : BreachLeft half san lengths bytes 0
+  pub breach_begin : BreachLeft san lengths bytes 0
   unfolding BreachLeft
   breach_begin = refl
 
@@ -61,7 +61,7 @@ module _ (half : Bool) (san lengths bytes : List ℕ) where
       count : length (strings_in lengths bytes) ≡ length lengths
       count = fit_count lengths bytes fits
 
-      module _ (k : ℕ) (inv : BreachLeft half san lengths bytes k) where
+      module _ (k : ℕ) (inv : BreachLeft san lengths bytes k) where
         pub breach_end : length lengths ≤ k → breached.Nothing ≡ answer
         unfolding BreachLeft first_breach breach_of
         breach_end h = ap breach_of (rw (drop_of_length-le (strings_in lengths bytes) {i = k} (rw count h)) at inv)
@@ -71,10 +71,10 @@ module _ (half : Bool) (san lengths bytes : List ℕ) where
           unfolding string_at
           string_valid a = rw s_is (all_at (validated read_constraints) (strings_in lengths bytes) k (rw count h) a)
 
-          module _ (f : First) (f_is : f ≡ first_of (first_broken half 0 (names_of read_constraints s) (names_of read_san san))) where
-            split : breach_or k (first_broken half 0 (names_of read_constraints s) (names_of read_san san))
-                (first_breach half (suc k) (map (names_of read_constraints) (drop (suc k) (strings_in lengths bytes))) (names_of read_san san))
-                ≡ first_breach half 0 (map (names_of read_constraints) (strings_in lengths bytes)) (names_of read_san san)
+          module _ (f : First) (f_is : f ≡ first_of (first_broken 0 (names_of read_constraints s) (names_of read_san san))) where
+            split : breach_or k (first_broken 0 (names_of read_constraints s) (names_of read_san san))
+                (first_breach (suc k) (map (names_of read_constraints) (drop (suc k) (strings_in lengths bytes))) (names_of read_san san))
+                ≡ first_breach 0 (map (names_of read_constraints) (strings_in lengths bytes)) (names_of read_san san)
             unfolding BreachLeft first_breach string_at
             split = rw (drop-cons (strings_in lengths bytes) k [] (rw count h), ← s_is) at inv
 
@@ -90,11 +90,11 @@ module _ (half : Bool) (san lengths bytes : List ℕ) where
 
             pub breach_here : (i : ℕ) → f ≡ At i → breached.At (record { issuer = k; presented = i }) ≡ answer
             unfolding breach_of
-            breach_here i q = ap breach_of (rw (found i (first_broken half 0 (names_of read_constraints s) (names_of read_san san)) f_is q) at split)
+            breach_here i q = ap breach_of (rw (found i (first_broken 0 (names_of read_constraints s) (names_of read_san san)) f_is q) at split)
 
-            pub breach_next : f ≡ Nothing → BreachLeft half san lengths bytes (k + 1)
+            pub breach_next : f ≡ Nothing → BreachLeft san lengths bytes (k + 1)
             unfolding BreachLeft
-            breach_next q = rw add-one (rw (missed (first_broken half 0 (names_of read_constraints s) (names_of read_san san)) f_is not_at) at split)
+            breach_next q = rw add-one (rw (missed (first_broken 0 (names_of read_constraints s) (names_of read_san san)) f_is not_at) at split)
               where
                 not_at : (i : ℕ) → f ≡ At i → ⊥
                 not_at i p = let z : ◌≡◌ {A = ℕ} 0 1 = cc in omega arith

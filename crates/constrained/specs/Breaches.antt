@@ -25,5 +25,5 @@ breach_of (some b) = breached.At b
 unfoldable pub breaks_as_at : Form → List (Member GeneralName) → List ℕ → ℕ → ℕ → Bool
 breaks_as_at form constraints s at end = if_some (whole_at s at end) (breaks_as form constraints)
 
-unfoldable pub breaks_at : Bool → List (Member GeneralName) → List ℕ → ℕ → ℕ → Bool
-breaks_at half constraints s at end = if_some (whole_at s at end) (breaks half constraints)
+unfoldable pub breaks_at : List (Member GeneralName) → List ℕ → ℕ → ℕ → Bool
+breaks_at constraints s at end = if_some (whole_at s at end) (breaks constraints)

@@ -1,47 +1,46 @@
 -- The subtrees of one form in a part of the constraints.
 use Rattle.std.specs.Prelude.{ℕ, ◌≡◌, Bool, cond, ◌||◌, List, [], ◌∷◌, T, ltb}
-use Rattle.std.proofs.Math.Option.{Option}
 use Rattle.rules.specs.Bytes.{some?, all, any, chain}
 use Rattle.rules.specs.Der.{Group}
 use Rattle.rules.specs.San.{GeneralName}
 use Rattle.rules.specs.Constraints.{permitted, excluded}
-use Rattle.rules.specs.Matching.{with_some, if_some, subtrees_of}
+use Rattle.rules.specs.Matching.{with_some, if_some, Form, subtrees_of}
 use Rattle.reading.specs.Reader.{then}
 use Rattle.reading.specs.Strings.{flat, read_subtree, read_side, rising, read_constraints}
 use Rattle.der.specs.Places.{element_at}
 use Rattle.der.specs.declared.Element.{Element}
 use Rattle.der.specs.declared.Element.TheVariants.{Found, Truncated, BadLength, BadTag}
 use Rattle.der.specs.Runs.{Run, items_in, names_of}
-use Rattle.entries.specs.Entries.{form_text, form_of, whole_at}
+use Rattle.entries.specs.Entries.{form_of, whole_at}
 use Rattle.constrained.specs.declared.Part.{Part}
 use Rattle.constrained.specs.declared.Sides.{Sides}
 
 -- an identifier lies in a subtree, or breaks it where it is excluded
-unfoldable pub meeting : Bool → ℕ → Bool → List ℕ → List ℕ → Bool
-meeting half kind excluded? subtree name = cond excluded? ((form_of half kind).reaches subtree name) ((form_of half kind).inside subtree name)
+unfoldable pub meeting : ℕ → Bool → List ℕ → List ℕ → Bool
+meeting kind excluded? subtree name = cond excluded? ((form_of kind).reaches subtree name) ((form_of kind).inside subtree name)
 
 -- the same of the subtree whose GeneralName stands from `at` to `end`; false where it is of another form
-unfoldable pub meets_at : Bool → ℕ → Bool → List ℕ → ℕ → ℕ → List ℕ → Bool
-meets_at half kind excluded? s at end name =
-    if_some (then (whole_at s at end) (form_text kind)) (λ subtree. meeting half kind excluded? subtree name)
+unfoldable pub meets_at : ℕ → Bool → List ℕ → ℕ → ℕ → List ℕ → Bool
+meets_at kind excluded? s at end name =
+    if_some (then (whole_at s at end) (form_of kind).text) (λ subtree. meeting kind excluded? subtree name)
 
 -- of any of these subtrees
-unfoldable pub meets_any : Bool → ℕ → Bool → List (List ℕ) → List ℕ → Bool
-meets_any half kind excluded? subtrees name = any (λ subtree. meeting half kind excluded? subtree name) subtrees
+unfoldable pub meets_any : ℕ → Bool → List (List ℕ) → List ℕ → Bool
+meets_any kind excluded? subtrees name = any (λ subtree. meeting kind excluded? subtree name) subtrees
 
 -- the texts of the names of the form among some names
-unfoldable pub texts_of : (GeneralName → Option (List ℕ)) → List GeneralName → List (List ℕ)
+unfoldable pub texts_of : Form → List GeneralName → List (List ℕ)
 texts_of form [] = []
-texts_of form (n ∷ l) = with_some (form n) (texts_of form l)
+texts_of form (n ∷ l) = with_some (form.text n) (texts_of form l)
 
 -- the texts of the subtrees of the form from `start` to `end`
-unfoldable pub texts_in : (GeneralName → Option (List ℕ)) → List ℕ → ℕ → ℕ → List (List ℕ)
+unfoldable pub texts_in : Form → List ℕ → ℕ → ℕ → List (List ℕ)
 texts_in form s start end = texts_of form (items_in read_subtree s start end)
 
 -- ---- parts and sides
 
 -- a part that ends where another does, begins at its first subtree of the form, and is empty where there is none
-pub record Narrowed (form : GeneralName → Option (List ℕ)) (s : List ℕ) (start end at : ℕ) : Type 0 where
+pub record Narrowed (form : Form) (s : List ℕ) (start end at : ℕ) : Type 0 where
   pub subtrees : Run read_subtree s at end
   pub texts : texts_in form s at end ≡ texts_in form s start end
   pub any_there : some? (texts_in form s start end) ≡ ltb at end
@@ -74,7 +73,7 @@ content_at s at end = part_of (element_at s at end)
 -- the part holds the subtrees of a side, of any form
 pub record Side (s : List ℕ) (number start end : ℕ) : Type 0 where
   pub subtrees : Run read_subtree s start end
-  pub texts : (form : GeneralName → Option (List ℕ)) → texts_in form s start end ≡ subtrees_of form number (names_of read_constraints s)
+  pub texts : (form : Form) → texts_in form s start end ≡ subtrees_of form number (names_of read_constraints s)
 
 -- both sides
 pub record BothSides (s : List ℕ) (r : Sides) : Type 0 where
@@ -82,12 +81,12 @@ pub record BothSides (s : List ℕ) (r : Sides) : Type 0 where
   pub outside : Side s excluded r.excluded.start r.excluded.end
 
 -- the part holds the subtrees of a side that are of the form, and is empty where there is none
-pub record FormSide (form : GeneralName → Option (List ℕ)) (s : List ℕ) (number start end : ℕ) : Type 0 where
+pub record FormSide (form : Form) (s : List ℕ) (number start end : ℕ) : Type 0 where
   pub subtrees : Run read_subtree s start end
   pub texts : texts_in form s start end ≡ subtrees_of form number (names_of read_constraints s)
   pub any_there : some? (subtrees_of form number (names_of read_constraints s)) ≡ ltb start end
 
-pub record FormSides (form : GeneralName → Option (List ℕ)) (s : List ℕ) (r : Sides) : Type 0 where
+pub record FormSides (form : Form) (s : List ℕ) (r : Sides) : Type 0 where
   pub inside : FormSide form s permitted r.permitted.start r.permitted.end
   pub outside : FormSide form s excluded r.excluded.start r.excluded.end
 

@@ -10,7 +10,7 @@ ghost use Rattle.rules.specs.declared.Breach.{Breach};
 ghost use Rattle.reading.specs.Reader.{is_some};
 ghost use Rattle.reading.specs.Strings.{read_name, read_san, read_subtree, read_constraints};
 ghost use Rattle.der.specs.Runs.{items_in, Run, validated, names_of};
-ghost use Rattle.entries.specs.Entries.{form_text, form_of, whole_at};
+ghost use Rattle.entries.specs.Entries.{form_of, whole_at};
 ghost use Rattle.issuers.specs.Strings.{strings_in};
 ghost use Rattle.constrained.specs.Subtrees.{meeting, meets_at, meets_any, texts_in, Narrowed, SideRun, content_at, BothSides, FormSides, restricting};
 ghost use Rattle.constrained.specs.Breaches.{first_of, breach_of, breaks_as_at, breaks_at};
@@ -48,26 +48,26 @@ pub enum Breached {
 }
 
 // Whether a text is an identifier of the form.
-fn is_id(half: bool, kind: usize, text: &[u8]) -> bool
-    ensures { result ≡ (form_of half kind).id text.now }
+fn is_id(kind: usize, text: &[u8]) -> bool
+    ensures { result ≡ (form_of kind).id text.now }
 {
     if kind == 9 {
         return srv::srv_id(text);
     }
-    dns::dns_id_by(half, text)
+    dns::dns_id(text)
 }
 
 // Whether an identifier lies in a subtree, or breaks it where it is excluded. Its first dot stands at `first`.
-fn meets(half: bool, kind: usize, excluded: bool, subtree: &[u8], name: &[u8], first: usize) -> bool
-    requires name_value { (form_of half kind).id name.now ≡ true }
+fn meets(kind: usize, excluded: bool, subtree: &[u8], name: &[u8], first: usize) -> bool
+    requires name_value { (form_of kind).id name.now ≡ true }
     requires first_value { (first ≡ length (before (is dot) name.now)) × (first ≤ length name.now) }
-    ensures { result ≡ meeting half kind excluded subtree.now name.now }
+    ensures { result ≡ meeting kind excluded subtree.now name.now }
 {
     if kind == 9 {
         return srv::in_subtree(subtree, name, first);
     }
     if excluded {
-        return dns::dns_reaches(half, subtree, name);
+        return dns::dns_reaches(subtree, name);
     }
     dns::dns_within(subtree, name)
 }
@@ -77,7 +77,6 @@ fn subtree_meets(
     s: &[u8],
     at: usize,
     end: usize,
-    half: bool,
     kind: usize,
     excluded: bool,
     name: &[u8],
@@ -86,15 +85,15 @@ fn subtree_meets(
     requires at_bound { at + 2 ≤ end }
     requires end_in_bounds { end ≤ length s.now }
     requires end_value { is_some (whole_at s.now at end) ≡ true }
-    requires name_value { (form_of half kind).id name.now ≡ true }
+    requires name_value { (form_of kind).id name.now ≡ true }
     requires first_value { (first ≡ length (before (is dot) name.now)) × (first ≤ length name.now) }
-    ensures { result ≡ meets_at half kind excluded s.now at end name.now }
+    ensures { result ≡ meets_at kind excluded s.now at end name.now }
 {
     let text = name_text(s, at, end, kind);
     if end < text {
         return false;
     }
-    meets(half, kind, excluded, &s[text..end], name, first)
+    meets(kind, excluded, &s[text..end], name, first)
 }
 
 // Whether an identifier meets a subtree of a part: left at the first that it meets.
@@ -102,22 +101,21 @@ fn meets_any(
     s: &[u8],
     start: usize,
     end: usize,
-    half: bool,
     kind: usize,
     excluded: bool,
     name: &[u8],
     first: usize,
 ) -> bool
     requires run { Run read_subtree s.now start end }
-    requires name_value { (form_of half kind).id name.now ≡ true }
+    requires name_value { (form_of kind).id name.now ≡ true }
     requires first_value { (first ≡ length (before (is dot) name.now)) × (first ≤ length name.now) }
-    ensures { result ≡ meets_any half kind excluded (texts_in (form_text kind) s.now start end) name.now }
+    ensures { result ≡ meets_any kind excluded (texts_in (form_of kind) s.now start end) name.now }
 {
     let mut at = start;
     while at < end {
         let next = element_end(s, at, end);
         let from = content_start(s, at, end);
-        let met = subtree_meets(s, from, next, half, kind, excluded, name, first);
+        let met = subtree_meets(s, from, next, kind, excluded, name, first);
         if met {
             return true;
         }
@@ -127,27 +125,19 @@ fn meets_any(
 }
 
 // The same of a side.
-fn meets_side(
-    s: &[u8],
-    side: Part,
-    half: bool,
-    kind: usize,
-    excluded: bool,
-    name: &[u8],
-    first: usize,
-) -> bool
+fn meets_side(s: &[u8], side: Part, kind: usize, excluded: bool, name: &[u8], first: usize) -> bool
     requires run { Run read_subtree s.now side.start side.end }
-    requires name_value { (form_of half kind).id name.now ≡ true }
+    requires name_value { (form_of kind).id name.now ≡ true }
     requires first_value { (first ≡ length (before (is dot) name.now)) × (first ≤ length name.now) }
-    ensures { result ≡ meets_any half kind excluded (texts_in (form_text kind) s.now side.start side.end) name.now }
+    ensures { result ≡ meets_any kind excluded (texts_in (form_of kind) s.now side.start side.end) name.now }
 {
-    meets_any(s, side.start, side.end, half, kind, excluded, name, first)
+    meets_any(s, side.start, side.end, kind, excluded, name, first)
 }
 
 // Where the first subtree of the form stands in a part; where the part ends, if it has none.
 fn narrow(s: &[u8], start: usize, end: usize, kind: usize) -> usize
     requires { Run read_subtree s.now start end }
-    ensures { Narrowed (form_text kind) s.now start end result }
+    ensures { Narrowed (form_of kind) s.now start end result }
 {
     let mut at = start;
     while at < end {
@@ -243,7 +233,7 @@ fn both_sides(s: &[u8]) -> Sides
 // The sides, each from its first subtree of the form on, and empty where it has none.
 fn form_sides(s: &[u8], sides: Sides, kind: usize) -> Sides
     requires { BothSides s.now sides }
-    ensures { FormSides (form_text kind) s.now result }
+    ensures { FormSides (form_of kind) s.now result }
 {
     let permitted = sides.permitted;
     let excluded = sides.excluded;
@@ -288,22 +278,22 @@ fn restricts_any(srv: Sides, dns: Sides) -> bool
 
 // "each presented SRVName must be an SRV-ID, lie in no excluded SRVName subtree, and, if any permitted SRVName subtree exists,
 // lie in one"; of dNSNames the same.
-fn allowed(constraints: &[u8], sides: Sides, half: bool, kind: usize, text: &[u8]) -> bool
-    requires form_sides { FormSides (form_text kind) constraints.now sides }
+fn allowed(constraints: &[u8], sides: Sides, kind: usize, text: &[u8]) -> bool
+    requires form_sides { FormSides (form_of kind) constraints.now sides }
     requires sides_value { restricting sides ≡ true }
-    ensures { result ≡ rules.allowed (form_of half kind) (names_of read_constraints constraints.now) text.now }
+    ensures { result ≡ rules.allowed (form_of kind) (names_of read_constraints constraints.now) text.now }
 {
-    let id = is_id(half, kind, text);
+    let id = is_id(kind, text);
     if id {
         let first = octets::find(text, 0x2E);
         let excluded = sides.excluded;
-        let outside = meets_side(constraints, excluded, half, kind, true, text, first);
+        let outside = meets_side(constraints, excluded, kind, true, text, first);
         if outside {
             return false;
         }
         let permitted = sides.permitted;
         if permitted.start < permitted.end {
-            return meets_side(constraints, permitted, half, kind, false, text, first);
+            return meets_side(constraints, permitted, kind, false, text, first);
         }
         return true;
     }
@@ -317,14 +307,13 @@ fn breaks_as(
     end: usize,
     constraints: &[u8],
     sides: Sides,
-    half: bool,
     kind: usize,
 ) -> bool
     requires at_bound { at + 2 ≤ end }
     requires end_in_bounds { end ≤ length san.now }
     requires end_value { is_some (whole_at san.now at end) ≡ true }
-    requires form_sides { FormSides (form_text kind) constraints.now sides }
-    ensures { result ≡ breaks_as_at (form_of half kind) (names_of read_constraints constraints.now) san.now at end }
+    requires form_sides { FormSides (form_of kind) constraints.now sides }
+    ensures { result ≡ breaks_as_at (form_of kind) (names_of read_constraints constraints.now) san.now at end }
 {
     let any = restricts(sides);
     if !any {
@@ -334,32 +323,24 @@ fn breaks_as(
     if end < text {
         return false;
     }
-    let fine = allowed(constraints, sides, half, kind, &san[text..end]);
+    let fine = allowed(constraints, sides, kind, &san[text..end]);
     !fine
 }
 
 // Whether that entry breaks the string.
-fn breaks(
-    san: &[u8],
-    at: usize,
-    end: usize,
-    constraints: &[u8],
-    srv: Sides,
-    dns: Sides,
-    half: bool,
-) -> bool
+fn breaks(san: &[u8], at: usize, end: usize, constraints: &[u8], srv: Sides, dns: Sides) -> bool
     requires at_bound { at + 2 ≤ end }
     requires end_in_bounds { end ≤ length san.now }
     requires end_value { is_some (whole_at san.now at end) ≡ true }
-    requires form_sides { FormSides (form_text 9) constraints.now srv }
-    requires form_sides_2 { FormSides (form_text 2) constraints.now dns }
-    ensures { result ≡ breaks_at half (names_of read_constraints constraints.now) san.now at end }
+    requires form_sides { FormSides (form_of 9) constraints.now srv }
+    requires form_sides_2 { FormSides (form_of 2) constraints.now dns }
+    ensures { result ≡ breaks_at (names_of read_constraints constraints.now) san.now at end }
 {
-    let broken = breaks_as(san, at, end, constraints, srv, half, 9);
+    let broken = breaks_as(san, at, end, constraints, srv, 9);
     if broken {
         return true;
     }
-    breaks_as(san, at, end, constraints, dns, half, 2)
+    breaks_as(san, at, end, constraints, dns, 2)
 }
 
 // The first of the entries from `start` to `end` that breaks the string.
@@ -370,19 +351,18 @@ fn first_in(
     constraints: &[u8],
     srv: Sides,
     dns: Sides,
-    half: bool,
 ) -> First
     requires run { Run read_name san.now start end }
-    requires form_sides { FormSides (form_text 9) constraints.now srv }
-    requires form_sides_2 { FormSides (form_text 2) constraints.now dns }
-    ensures value { result ≡ first_of (first_broken half 0 (names_of read_constraints constraints.now) (items_in read_name san.now start end)) }
+    requires form_sides { FormSides (form_of 9) constraints.now srv }
+    requires form_sides_2 { FormSides (form_of 2) constraints.now dns }
+    ensures value { result ≡ first_of (first_broken 0 (names_of read_constraints constraints.now) (items_in read_name san.now start end)) }
     ensures by_index { (i : ℕ) → result ≡ First.At i → i ≤ length san.now }
 {
     let mut at = start;
     let mut i = 0;
     while at < end {
         let next = element_end(san, at, end);
-        let broken = breaks(san, at, next, constraints, srv, dns, half);
+        let broken = breaks(san, at, next, constraints, srv, dns);
         if broken {
             return First::At(i);
         }
@@ -394,10 +374,10 @@ fn first_in(
 
 // The index of the first entry of a SAN that breaks one string; the index counts all entries from 0. Where the string holds no subtree of
 // either form, the SAN is not looked at.
-fn first_broken(san: &[u8], constraints: &[u8], half: bool) -> First
+fn first_broken(san: &[u8], constraints: &[u8]) -> First
     requires san_value { validated read_san san.now ≡ true }
     requires constraints_value { validated read_constraints constraints.now ≡ true }
-    ensures value { result ≡ first_of (first_broken half 0 (names_of read_constraints constraints.now) (names_of read_san san.now)) }
+    ensures value { result ≡ first_of (first_broken 0 (names_of read_constraints constraints.now) (names_of read_san san.now)) }
     ensures by_index { (i : ℕ) → result ≡ First.At i → i ≤ length san.now }
 {
     let sides = both_sides(constraints);
@@ -417,14 +397,14 @@ fn first_broken(san: &[u8], constraints: &[u8], half: bool) -> First
     else {
         return First::Nothing;
     };
-    first_in(san, start, end, constraints, srv, dns, half)
+    first_in(san, start, end, constraints, srv, dns)
 }
 
 // "All of them must hold"; "lowest issuer first, then lowest name".
-pub fn first_breach(san: &[u8], constraints: &[u8], lengths: &[usize], half: bool) -> Breached
+pub fn first_breach(san: &[u8], constraints: &[u8], lengths: &[usize]) -> Breached
     requires san_value { validated read_san san.now ≡ true }
     requires constraints_value { all (validated read_constraints) (strings_in lengths.now constraints.now) ≡ true }
-    ensures value { result ≡ breach_of (first_breach half 0 (map (names_of read_constraints) (strings_in lengths.now constraints.now)) (names_of read_san san.now)) }
+    ensures value { result ≡ breach_of (first_breach 0 (map (names_of read_constraints) (strings_in lengths.now constraints.now)) (names_of read_san san.now)) }
     ensures issuer_bound { (b : Breach) → result ≡ Breached.At b → (b.issuer ≤ 8) × (b.presented ≤ length san.now) }
 {
     let fit = issuers::lengths_fit(lengths, constraints.len());
@@ -434,7 +414,7 @@ pub fn first_breach(san: &[u8], constraints: &[u8], lengths: &[usize], half: boo
     let mut k = 0;
     while k < lengths.len() {
         let s = issuers::string_of(lengths, constraints, k);
-        let f = first_broken(san, s, half);
+        let f = first_broken(san, s);
         if let First::At(i) = f {
             return Breached::At(Breach {
                 issuer: k,

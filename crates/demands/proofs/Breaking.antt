@@ -40,7 +40,7 @@ module _ (F : Form) (Is : GeneralName → List ℕ → Type 0) (is : (n : Genera
   is_added side m t e h = rw (eq-eqb m.group side e) ((is m.value t).1 h)
 
   -- a text among them that passes is a subtree's
-  there : (c : List (Member GeneralName)) (side : ℕ) (p : List ℕ → Bool) → any p (subtrees_of F.text side c) ≡ true
+  there : (c : List (Member GeneralName)) (side : ℕ) (p : List ℕ → Bool) → any p (subtrees_of F side c) ≡ true
       → (t : List ℕ) × Subtree Is c side t × T (p t)
   unfolding subtrees_of
   there [] side p e = absurd (true≢false (sym e))
@@ -52,7 +52,7 @@ module _ (F : Form) (Is : GeneralName → List ℕ → Type 0) (is : (n : Genera
           (h.0, record { index = suc s.index; subtree = s.subtree; subtree_at_lem = s.subtree_at_lem; side_is = s.side_is; text_is = s.text_is }, h.2)
 
       go : (o : Option (List ℕ)) → added side m ≡ o
-          → (any p (subtrees_of F.text side c) ≡ true → (t : List ℕ) × Subtree Is (m ∷ c) side t × T (p t))
+          → (any p (subtrees_of F side c) ≡ true → (t : List ℕ) × Subtree Is (m ∷ c) side t × T (p t))
           → (t : List ℕ) × Subtree Is (m ∷ c) side t × T (p t)
       go none q rest = rest (rw q at e)
       go (some t) q rest =
@@ -62,7 +62,7 @@ module _ (F : Form) (Is : GeneralName → List ℕ → Type 0) (is : (n : Genera
           (λ f. rest (rw (q, f) at e))
 
   -- where none passes no subtree's does
-  nowhere : (c : List (Member GeneralName)) (side : ℕ) (p : List ℕ → Bool) → any p (subtrees_of F.text side c) ≡ false
+  nowhere : (c : List (Member GeneralName)) (side : ℕ) (p : List ℕ → Bool) → any p (subtrees_of F side c) ≡ false
       → (k : ℕ) (m : Member GeneralName) (t : List ℕ) → get_elem? c k ≡ some m → m.group ≡ side → Is m.value t → p t ≡ false
   unfolding subtrees_of
   nowhere [] side p e k m t at g h = absurd (no_some at)
@@ -71,23 +71,23 @@ module _ (F : Form) (Is : GeneralName → List ℕ → Type 0) (is : (n : Genera
       by_cases (p t) (λ f. clash refl (rw (q, f) at e)) (λ f. f)
   nowhere (n ∷ c) side p e (suc k) m t at g h = nowhere c side p (behind (added side n) e) k m t at g h
     where
-      behind : (o : Option (List ℕ)) → any p (with_some o (subtrees_of F.text side c)) ≡ false → any p (subtrees_of F.text side c) ≡ false
+      behind : (o : Option (List ℕ)) → any p (with_some o (subtrees_of F side c)) ≡ false → any p (subtrees_of F side c) ≡ false
       behind none f = f
       behind (some a) f = by_cases (p a) (λ q. clash refl (rw q at f)) (λ q. rw q at f)
 
   module _ (c : List (Member GeneralName)) where
     -- so one passes exactly where a subtree's does
-    passes : (side : ℕ) (p : List ℕ → Bool) (t : List ℕ) → Subtree Is c side t → T (p t) → any p (subtrees_of F.text side c) ≡ true
+    passes : (side : ℕ) (p : List ℕ → Bool) (t : List ℕ) → Subtree Is c side t → T (p t) → any p (subtrees_of F side c) ≡ true
     passes side p t s h =
-        by_cases (any p (subtrees_of F.text side c)) (λ e. e)
+        by_cases (any p (subtrees_of F side c)) (λ e. e)
         (λ e. clash (is_true (p t) h) (nowhere c side p e s.index s.subtree t s.subtree_at_lem s.side_is s.text_is))
 
-    some_of : (side : ℕ) (t : List ℕ) → Subtree Is c side t → some? (subtrees_of F.text side c) ≡ true
-    some_of side t s = some_any (subtrees_of F.text side c) ∙ passes side (λ a. true) t s tt
+    some_of : (side : ℕ) (t : List ℕ) → Subtree Is c side t → some? (subtrees_of F side c) ≡ true
+    some_of side t s = some_any (subtrees_of F side c) ∙ passes side (λ a. true) t s tt
 
-    of_some : (side : ℕ) → some? (subtrees_of F.text side c) ≡ true → (t : List ℕ) × Subtree Is c side t
+    of_some : (side : ℕ) → some? (subtrees_of F side c) ≡ true → (t : List ℕ) × Subtree Is c side t
     of_some side e =
-        let h = there c side (λ a. true) (sym (some_any (subtrees_of F.text side c)) ∙ e) in
+        let h = there c side (λ a. true) (sym (some_any (subtrees_of F side c)) ∙ e) in
         (h.0, h.1)
 
     -- ---- a text that is not allowed
@@ -102,9 +102,9 @@ module _ (F : Form) (Is : GeneralName → List ℕ → Type 0) (is : (n : Genera
         where
           held : (side : ℕ) × (subtree : List ℕ) × (side < 2) × Subtree Is c side subtree
           held =
-              by_cases (some? (subtrees_of F.text permitted c))
+              by_cases (some? (subtrees_of F permitted c))
               (λ p. let s = of_some permitted p in (permitted, s.0, omega arith, s.1))
-              (λ p. by_cases (some? (subtrees_of F.text excluded c))
+              (λ p. by_cases (some? (subtrees_of F excluded c))
               (λ x. let s = of_some excluded x in (excluded, s.0, omega arith, s.1))
               (λ x. clash refl (rw (p, x) at e)))
 
@@ -113,10 +113,10 @@ module _ (F : Form) (Is : GeneralName → List ℕ → Type 0) (is : (n : Genera
               ⊎ (((subtree : List ℕ) × Subtree Is c permitted subtree) × ((subtree : List ℕ) → Subtree Is c permitted subtree → ¬ T (F.inside subtree t)))
           why =
               by_cases (F.id t)
-              (λ i. by_cases (any (λ s. F.reaches s t) (subtrees_of F.text excluded c))
+              (λ i. by_cases (any (λ s. F.reaches s t) (subtrees_of F excluded c))
               (λ x. inr (inl (there c excluded (λ s. F.reaches s t) x)))
-              (λ x. by_cases (some? (subtrees_of F.text permitted c))
-              (λ p. by_cases (any (λ s. F.inside s t) (subtrees_of F.text permitted c))
+              (λ x. by_cases (some? (subtrees_of F permitted c))
+              (λ p. by_cases (any (λ s. F.inside s t) (subtrees_of F permitted c))
               (λ n. clash refl (rw (i, x, p, n) at e))
               (λ n. inr (inr (of_some permitted p, λ subtree s h. clash (passes permitted (λ s. F.inside s t) subtree s h) n))))
               (λ p. clash refl (rw (i, x, p, or-true) at e))))
@@ -127,7 +127,7 @@ module _ (F : Form) (Is : GeneralName → List ℕ → Type 0) (is : (n : Genera
       is_not_allowed b = rw (held b.some_subtree, why b.not_allowed)
         where
           held : (side : ℕ) × (subtree : List ℕ) × (side < 2) × Subtree Is c side subtree
-              → (not (some? (subtrees_of F.text permitted c)) && not (some? (subtrees_of F.text excluded c))) ≡ false
+              → (not (some? (subtrees_of F permitted c)) && not (some? (subtrees_of F excluded c))) ≡ false
           held (zero, subtree, h, s) = rw (some_of permitted subtree s)
           held (suc zero, subtree, h, s) = rw (some_of excluded subtree s, and-false)
           held (suc (suc n), subtree, h, s) = absurd (omega arith)
@@ -135,12 +135,12 @@ module _ (F : Form) (Is : GeneralName → List ℕ → Type 0) (is : (n : Genera
           why : ¬ T (F.id t)
               ⊎ ((subtree : List ℕ) × Subtree Is c excluded subtree × T (F.reaches subtree t))
               ⊎ (((subtree : List ℕ) × Subtree Is c permitted subtree) × ((subtree : List ℕ) → Subtree Is c permitted subtree → ¬ T (F.inside subtree t)))
-              → (F.id t && not (any (λ s. F.reaches s t) (subtrees_of F.text excluded c))
-              && (not (some? (subtrees_of F.text permitted c)) || any (λ s. F.inside s t) (subtrees_of F.text permitted c))) ≡ false
+              → (F.id t && not (any (λ s. F.reaches s t) (subtrees_of F excluded c))
+              && (not (some? (subtrees_of F permitted c)) || any (λ s. F.inside s t) (subtrees_of F permitted c))) ≡ false
           why (inl n) = rw (sym (fails (F.id t) (λ e. n (holds _ e))))
           why (inr (inl h)) = rw (passes excluded (λ s. F.reaches s t) h.0 h.1 h.2, and-false)
           why (inr (inr h)) =
-              let n : any (λ s. F.inside s t) (subtrees_of F.text permitted c) ≡ false =
+              let n : any (λ s. F.inside s t) (subtrees_of F permitted c) ≡ false =
               sym (fails _ (λ e. let s = there c permitted (λ s. F.inside s t) e in h.1 s.0 s.1 s.2)) in
               rw (some_of permitted h.0.0 h.0.1, n, and-false)
 
@@ -150,17 +150,17 @@ module _ (F : Form) (Is : GeneralName → List ℕ → Type 0) (is : (n : Genera
 
 -- ---- the two forms
 
-module _ (half : Bool) (c : List (Member GeneralName)) where
-  srv_breaks : (tag : ℕ) (t : List ℕ) → breaks half c (other srv_oid tag t) ≡ not (allowed srv_form c t)
+module _ (c : List (Member GeneralName)) where
+  srv_breaks : (tag : ℕ) (t : List ℕ) → breaks c (other srv_oid tag t) ≡ not (allowed srv_form c t)
   unfolding breaks breaks_as srv_text tagged_text same
   srv_breaks tag t = or-false _
 
-  dns_breaks_lem : (t : List ℕ) → breaks half c (plain 0x82 t) ≡ not (allowed (dns_form half) c t)
+  dns_breaks_lem : (t : List ℕ) → breaks c (plain 0x82 t) ≡ not (allowed dns_form c t)
   unfolding breaks breaks_as srv_text tagged_text
   dns_breaks_lem t = refl
 
   -- a name that has neither text breaks nothing
-  others_pass_lem : (n : GeneralName) → srv_text n ≡ none → tagged_text 0x82 n ≡ none → breaks half c n ≡ false
+  others_pass_lem : (n : GeneralName) → srv_text n ≡ none → tagged_text 0x82 n ≡ none → breaks c n ≡ false
   unfolding breaks breaks_as
   others_pass_lem n e f = rw (e, f)
 
@@ -168,9 +168,9 @@ no_text : {A : Type 0} (o : Option A) → ((a : A) → o ≡ some a → ⊥) →
 no_text none h = refl
 no_text (some a) h = absurd (h a refl)
 
-pub breaks_string : (half : Bool) (string : List (Member GeneralName)) (name : GeneralName) → BreaksString half string name
-breaks_string half c name = record {
-  srv = λ t h. rw (h.1, srv_breaks half c h.0 t) (by_subtrees srv_form IsSrv srv_is c t);
-  dns = λ t e. rw (e, dns_breaks_lem half c t) (by_subtrees (dns_form half) IsDns (tagged_is 0x82) c t);
-  others = λ u v. rw (others_pass_lem half c name (no_text _ (λ t e. u t ((srv_is name t).0 e))) (no_text _ (λ t e. v t ((tagged_is 0x82 name t).0 e)))) (λ h. h);
+pub breaks_string : (string : List (Member GeneralName)) (name : GeneralName) → BreaksString string name
+breaks_string c name = record {
+  srv = λ t h. rw (h.1, srv_breaks c h.0 t) (by_subtrees srv_form IsSrv srv_is c t);
+  dns = λ t e. rw (e, dns_breaks_lem c t) (by_subtrees dns_form IsDns (tagged_is 0x82) c t);
+  others = λ u v. rw (others_pass_lem c name (no_text _ (λ t e. u t ((srv_is name t).0 e))) (no_text _ (λ t e. v t ((tagged_is 0x82 name t).0 e)))) (λ h. h);
 }

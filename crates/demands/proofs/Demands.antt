@@ -19,8 +19,7 @@ use Rattle.demands.proofs.Listings.{listings, readings}
 use Rattle.demands.proofs.Witness.{first_pair_lem, no_witness}
 use Rattle.demands.proofs.Presented.{kinds, entry_index, set_index}
 use Rattle.demands.proofs.Breaking.{breaks_string}
-use Rattle.demands.proofs.KeptOut.{kept_out, half_excluded}
-use Rattle.demands.proofs.Before.{stays}
+use Rattle.demands.proofs.KeptOut.{kept_out}
 
 pub demand1 : Demand1
 demand1 = record { verdict = verdicts; records = records; listing = listings }
@@ -34,8 +33,6 @@ demand2 = record {
   set_index = set_index;
   breaks = breaks_string;
   kept_out = kept_out;
-  half_excluded = half_excluded;
-  stays = stays;
   match = match_exactly;
   broken = any_broken;
 }

@@ -113,38 +113,38 @@ module _ {A : Type 0} (p : A → Bool) where
   found_first = first_passing (λ i a. a) (λ i l. find p l) (λ i. refl) (λ i a l e. rw e) (λ i a l e. rw e)
 
 -- the first entry that breaks a string
-broken_first : (half : Bool) (string : List (Member GeneralName)) (l : List GeneralName) → Finds (Passes (breaks half string)) (λ i n j h. i) (λ i l. first_broken half i string l) 0 l
+broken_first : (string : List (Member GeneralName)) (l : List GeneralName) → Finds (Passes (breaks string)) (λ i n j h. i) (λ i l. first_broken i string l) 0 l
 unfolding first_broken
-broken_first half string =
-    first_passing (breaks half string) (λ i n. i) (λ i l. first_broken half i string l) (λ i. refl) (λ i n l e. rw e) (λ i n l e. rw e)
+broken_first string =
+    first_passing (breaks string) (λ i n. i) (λ i l. first_broken i string l) (λ i. refl) (λ i n l e. rw e) (λ i n l e. rw e)
 
 -- ---- the first breach
 
-module _ (half : Bool) (san : List GeneralName) where
+module _ (san : List GeneralName) where
   -- the entry at j breaks the string
   abbrev pub EntryBreaks : List (Member GeneralName) → ℕ → Type 0
-  EntryBreaks string j = PlaceAt (Passes (breaks half string)) san j 0
+  EntryBreaks string j = PlaceAt (Passes (breaks string)) san j 0
 
   abbrev pub breach : ℕ → (string : List (Member GeneralName)) (j : ℕ) → EntryBreaks string j → Breach
   breach i string j h = record { issuer = i; presented = j }
 
-  breach_step : (i : ℕ) (string : List (Member GeneralName)) (l : List (List (Member GeneralName))) → Step EntryBreaks breach (λ i l. first_breach half i l san) i string l
+  breach_step : (i : ℕ) (string : List (Member GeneralName)) (l : List (List (Member GeneralName))) → Step EntryBreaks breach (λ i l. first_breach i l san) i string l
   unfolding first_breach
-  breach_step i string l = go (broken_first half string san)
+  breach_step i string l = go (broken_first string san)
     where
-      go : Finds (Passes (breaks half string)) (λ i n j h. i) (λ i l. first_broken half i string l) 0 san → Step EntryBreaks breach (λ i l. first_breach half i l san) i string l
-      go (missing n e) = goes_on (λ k p. n k 0 p) (ap (λ o. breach_or i o (first_breach half (suc i) l san)) e)
+      go : Finds (Passes (breaks string)) (λ i n j h. i) (λ i l. first_broken i string l) 0 san → Step EntryBreaks breach (λ i l. first_breach i l san) i string l
+      go (missing n e) = goes_on (λ k p. n k 0 p) (ap (λ o. breach_or i o (first_breach (suc i) l san)) e)
       go (found k j p f e) =
           let z : 0 + k ≡ k = omega arith in
-          stops k (record { element = p.element; at = p.at; has = p.has }) (λ k' q. no_lower (Passes (breaks half string)) san k j f k' 0 q)
-          (ap (λ o. breach_or i o (first_breach half (suc i) l san)) e ∙ ap (λ n. some (record { issuer = i; presented = n })) z)
+          stops k (record { element = p.element; at = p.at; has = p.has }) (λ k' q. no_lower (Passes (breaks string)) san k j f k' 0 q)
+          (ap (λ o. breach_or i o (first_breach (suc i) l san)) e ∙ ap (λ n. some (record { issuer = i; presented = n })) z)
 
-  no_breach : (i : ℕ) → first_breach half i [] san ≡ none
+  no_breach : (i : ℕ) → first_breach i [] san ≡ none
   unfolding first_breach
   no_breach i = refl
 
-  pub breaches : (l : List (List (Member GeneralName))) → Finds EntryBreaks breach (λ i l. first_breach half i l san) 0 l
-  breaches = finds EntryBreaks breach (λ i l. first_breach half i l san) no_breach breach_step 0
+  pub breaches : (l : List (List (Member GeneralName))) → Finds EntryBreaks breach (λ i l. first_breach i l san) 0 l
+  breaches = finds EntryBreaks breach (λ i l. first_breach i l san) no_breach breach_step 0
 
 -- ---- the first pair
 

@@ -3,7 +3,6 @@ use Prim.Native.Nat.{ℕ, ◌+◌, ◌≤◌, ◌<◌}
 use mathlib.Core.Path.{◌≡◌, ap, ◌∙◌}
 use mathlib.Core.Logic.{◌⊎◌}
 use native.Mathlib.Omega.{arith}
-use Rattle.rules.specs.Records.{any_half}
 use Rattle.rules.specs.Matching.{Pair, first_pair, first_breach}
 use Rattle.rules.specs.Verdict.{matched_or, broken_or, witness_of, judged}
 use Rattle.rules.specs.declared.Outcome.{Outcome}
@@ -29,10 +28,10 @@ pub data Judged (l : Names) (o : Outcome) : Type 0 where
 
 module _ (l : Names) where
   -- a breach, and a pair, as a place in a list and in what its element has
-  breaking : (k i : ℕ) → PlaceAt (EntryBreaks (any_half l.references) l.san) l.constraints k i → BreaksAt l k i
+  breaking : (k i : ℕ) → PlaceAt (EntryBreaks l.san) l.constraints k i → BreaksAt l k i
   breaking k i p = record { string = p.element; string_at_lem = p.at; entry = p.has.element; entry_at = p.has.at; broken = p.has.has }
 
-  broken_there : (k i : ℕ) → BreaksAt l k i → PlaceAt (EntryBreaks (any_half l.references) l.san) l.constraints k i
+  broken_there : (k i : ℕ) → BreaksAt l k i → PlaceAt (EntryBreaks l.san) l.constraints k i
   broken_there k i b = record { element = b.string; at = b.string_at_lem; has = record { element = b.entry; at = b.entry_at; has = b.broken } }
 
   pairing : (i j : ℕ) → PlaceAt (MatchesAt l) l.references i j → PairAt l i j
@@ -44,9 +43,9 @@ module _ (l : Names) where
   -- the constraints come first, then the first pair
   pub judge : Judged l (judged l.references l.san l.subject l.constraints)
   unfolding judged pairing
-  judge = go (breaches (any_half l.references) l.san l.constraints) (pairs l l.references)
+  judge = go (breaches l.san l.constraints) (pairs l l.references)
     where
-      go : Finds (EntryBreaks (any_half l.references) l.san) (breach (any_half l.references) l.san) (λ k c. first_breach (any_half l.references) k c l.san) 0 l.constraints
+      go : Finds (EntryBreaks l.san) (breach l.san) (λ k c. first_breach k c l.san) 0 l.constraints
           → Finds (MatchesAt l) (pair l) (λ i rs. first_pair i rs l.san l.subject) 0 l.references
           → Judged l (judged l.references l.san l.subject l.constraints)
       go (found k i p f e) q =

@@ -9,8 +9,6 @@ pub mod Listings
 pub mod Texts
 pub mod Presented
 pub mod Breaking
-pub mod Halves
-pub mod Before
 pub mod KeptOut
 pub mod Places
 pub mod Witness

@@ -12,7 +12,7 @@ use lib.Dec.{T}
 use borrow.Author.Tests.{ne_eqb}
 use Rattle.rules.specs.Bytes.{any}
 use Rattle.rules.specs.Numbers.{dns_kind, srv_kind, uri_kind, cn_kind}
-use Rattle.rules.specs.Names.{dns_matches_by, srv_matches, uri_matches}
+use Rattle.rules.specs.Names.{dns_matches, srv_matches, uri_matches}
 use Rattle.rules.specs.Records.{Reference}
 use Rattle.rules.specs.Der.{Member}
 use Rattle.rules.specs.San.{GeneralName, plain, other, srv_oid, san_grammar}
@@ -212,9 +212,9 @@ module _ (l : Names) (r : Reference) (j : ℕ) where
         λ m. (plain tag m.0, m.1, (tagged_text_lem test tag _).1 (m.0, refl, m.2)),
       )
 
-  dns : r.kind ≡ dns_kind → MatchesAt l r j ↔ (c : List ℕ) × (get_elem? l.san j ≡ some (plain 0x82 c)) × T (dns_matches_by r.half r.domain c)
+  dns : r.kind ≡ dns_kind → MatchesAt l r j ↔ (c : List ℕ) × (get_elem? l.san j ≡ some (plain 0x82 c)) × T (dns_matches r.domain c)
   unfolding entry_text text_matches
-  dns e = tagged_kind 0x82 (dns_matches_by r.half r.domain) (λ q. omega arith) (λ n. simp e) (λ c. simp e)
+  dns e = tagged_kind 0x82 (dns_matches r.domain) (λ q. omega arith) (λ n. simp e) (λ c. simp e)
 
   uri : r.kind ≡ uri_kind → MatchesAt l r j ↔ (c : List ℕ) × (get_elem? l.san j ≡ some (plain 0x86 c)) × T (uri_matches r.service r.domain c)
   unfolding entry_text text_matches
@@ -236,7 +236,7 @@ module _ (l : Names) (r : Reference) (j : ℕ) where
   abbrev CnMatch : Type 0
   CnMatch =
       (a : Member Attribute) × (get_elem? l.subject j ≡ some a) × T (is_cn a.value) × T (cn_tag a.value.tag)
-      × T (sole_cn l.subject a.group) × T (dns_matches_by r.half r.domain a.value.content)
+      × T (sole_cn l.subject a.group) × T (dns_matches r.domain a.value.content)
 
   -- of an attribute, where nothing blocks it
   cn_unblocked : r.kind ≡ cn_kind → any blocks_cn l.san ≡ false → MatchesAt l r j ↔ CnMatch

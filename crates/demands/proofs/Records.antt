@@ -10,8 +10,8 @@ use lib.ListN.{length, get_or, get_elem?, take, drop, length-take, length-map}
 use lib.Dec.{T, leb, eqb, ltb, leb→le}
 use borrow.Author.Tests.{ltb-true, ltb-false}
 use Rattle.rules.specs.Bytes.{part, some?, all}
-use Rattle.rules.specs.Numbers.{record_size, records_limit, service_length_at, domain_length_at, service_at, service_size, domain_at, domain_size, half_at}
-use Rattle.rules.specs.Records.{Reference, reference_of, filled, good_reference, good_record, records_of, good_records, references_of, shown_at, shown, good_flag}
+use Rattle.rules.specs.Numbers.{record_size, records_limit, service_length_at, domain_length_at, service_at, service_size, domain_at, domain_size}
+use Rattle.rules.specs.Records.{Reference, reference_of, filled, good_reference, good_record, records_of, good_records, references_of, shown_at, shown}
 use Rattle.rules.specs.Seen.{too_long, unreadable, listed, seen_records}
 use Rattle.reading.specs.Answers.{no_some, and_parts}
 use Rattle.demands.specs.Statements.{four, record_answers, Records}
@@ -31,9 +31,9 @@ good_shown : (b : List ℕ) → T (good_record b)
     → four 0 (get_or b 0 0) (get_or b 2 0) (get_or b 3 0) ≡ four 0 (reference_of b).kind (length (reference_of b).service) (length (reference_of b).domain)
 unfolding good_record reference_of
 good_shown b h =
-    let x = (and_parts (good_flag (get_or b 0 0) (get_or b half_at 0) && filled (part b service_at service_size) (get_or b service_length_at 0) && filled (part b domain_at domain_size) (get_or b domain_length_at 0)) (good_reference (reference_of b)) h).0 in
-    let y = and_parts (good_flag (get_or b 0 0) (get_or b half_at 0) && filled (part b service_at service_size) (get_or b service_length_at 0)) (filled (part b domain_at domain_size) (get_or b domain_length_at 0)) x in
-    let z = and_parts (good_flag (get_or b 0 0) (get_or b half_at 0)) (filled (part b service_at service_size) (get_or b service_length_at 0)) y.0 in
+    let x = (and_parts (eqb (get_or b 1 0) 0 && filled (part b service_at service_size) (get_or b service_length_at 0) && filled (part b domain_at domain_size) (get_or b domain_length_at 0)) (good_reference (reference_of b)) h).0 in
+    let y = and_parts (eqb (get_or b 1 0) 0 && filled (part b service_at service_size) (get_or b service_length_at 0)) (filled (part b domain_at domain_size) (get_or b domain_length_at 0)) x in
+    let z = and_parts (eqb (get_or b 1 0) 0) (filled (part b service_at service_size) (get_or b service_length_at 0)) y.0 in
     let s = field_length b service_at service_size (get_or b service_length_at 0) z.1 in
     let d = field_length b domain_at domain_size (get_or b domain_length_at 0) y.1 in
     λ k. four 0 (get_or b 0 0) (sym s k) (sym d k)

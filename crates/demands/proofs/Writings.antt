@@ -12,7 +12,7 @@ use borrow.Author.Tests.{eq-eqb, ne_eqb, eqb-true, eqb-false, le-ltb, ltb-true, 
 use Rattle.rules.specs.Bytes.{some?, all, same, ascii, begins, cut, sum}
 use Rattle.rules.specs.Numbers.{record_size}
 use Rattle.rules.specs.Names.{srv_id}
-use Rattle.rules.specs.Records.{Reference, reference, reference_of, good_record, split, records_of, good_records, references_of, any_half}
+use Rattle.rules.specs.Records.{Reference, reference_of, good_record, split, records_of, good_records, references_of}
 use Rattle.rules.specs.Der.{element, run}
 use Rattle.rules.specs.San.{good_name, good_value, sealed, good_srv_name, san_grammar}
 use Rattle.rules.specs.Seen.{listed, san_input, Sees, seen_records}
@@ -247,21 +247,11 @@ records_good [] e = refl
 records_good (r ∷ l) e =
     rw (and_right (fields_hold r) _ (and_left (good_to_write r) _ e)) (records_good l (and_right (good_to_write r) _ e))
 
-records_say : (l : List Reference) → all good_to_write l ≡ true → any_half l ≡ false → map reference_of (map record_for l) ≡ l
-unfolding any_half
-records_say [] e n = refl
-records_say (r ∷ l) e n =
+records_say : (l : List Reference) → all good_to_write l ≡ true → map reference_of (map record_for l) ≡ l
+records_say [] e = refl
+records_say (r ∷ l) e =
     let f = texts_fit r (is_good r (and_left (good_to_write r) _ e)) in
-    by_cases r.half (λ h. clash (rw h) n)
-    (λ h. rw (says_it r f.service f.domain h, records_say l (and_right (good_to_write r) _ e) (rw h at n)))
-
--- 8/13: "4/13's writers stay": no reference that they are asked for accepts half labels
-references_whole : (ks : List ℕ) (ts : List (List ℕ)) → any_half (references ks ts) ≡ false
-unfolding references any_half
-references_whole [] ts = refl
-references_whole (k ∷ ks) [] = refl
-references_whole (k ∷ ks) (s ∷ []) = refl
-references_whole (k ∷ ks) (s ∷ d ∷ ts) = references_whole ks ts
+    rw (says_it r f.service f.domain, records_say l (and_right (good_to_write r) _ e))
 
 references_some : (ks ns ts : List ℕ) → length ns ≡ 2 * length ks → some? ks ≡ true → some? (run record_for (references ks (cut ns ts))) ≡ true
 unfolding references cut run record_for
@@ -269,10 +259,6 @@ references_some [] ns ts e k = k
 references_some (x ∷ ks) [] ts e k = absurd (omega arith)
 references_some (x ∷ ks) (n ∷ []) ts e k = absurd (omega arith)
 references_some (x ∷ ks) (n ∷ m ∷ ns) ts e k = refl
-
-no_half : (q : Request) → any_half (asked record_writer q) ≡ false
-unfolding asked
-no_half q = references_whole q.kinds (cut q.lengths q.texts)
 
 module _ (q : Request) (lent : ℕ) (z : (written_by record_writer q lent).answer ≡ 0) where
   answer : Accepted record_writer q (written_by record_writer q lent) lent
@@ -304,26 +290,21 @@ module _ (q : Request) (lent : ℕ) (z : (written_by record_writer q lent).answe
 
   says_asked : references_of (result_of record_writer q) ≡ asked record_writer q
   unfolding references_of
-  says_asked = ap (map reference_of) split_so ∙ records_say (asked record_writer q) all_taken (no_half q)
+  says_asked = ap (map reference_of) split_so ∙ records_say (asked record_writer q) all_taken
 
   reads_back : seen_records (result_of record_writer q) ≡ listed (asked record_writer q)
   unfolding seen_records
   reads_back = rw (le-ltb 5120 (length (result_of record_writer q)) answer.within, good_records_lem, says_asked)
 
-references_asked : (l : List Reference) → any_half l ≡ false → asked record_writer (records_request l) ≡ l
-unfolding asked cut references run any_half
-references_asked [] n = refl
-references_asked (r ∷ l) n =
-    by_cases r.half (λ h. clash (rw h) n)
-    (λ h.
-    let k : reference r.kind r.service r.domain ≡ r =
-    λ i. record { kind = r.kind; half = sym h i; service = r.service; domain = r.domain } in
-    rw (append_assoc r.service r.domain (records_request l).texts, take-append_seam, drop-append_seam, take-append_seam, drop-append_seam, references_asked l (rw h at n), k))
+references_asked : (l : List Reference) → asked record_writer (records_request l) ≡ l
+unfolding asked cut references run
+references_asked [] = refl
+references_asked (r ∷ l) =
+    rw (append_assoc r.service r.domain (records_request l).texts, take-append_seam, drop-append_seam, take-append_seam, drop-append_seam, references_asked l)
 
 pub record_writer_lem : RecordWriter
 record_writer_lem = record {
   calls = calls record_writer;
   asked_for = references_asked;
-  no_half = no_half;
   reads_back = reads_back;
 }

@@ -2,7 +2,7 @@
 use Rattle.std.specs.Prelude.{ℕ, ◌<◌, ◌≡◌, ◌↔◌, ◌⊎◌, Bool, List, T}
 use Rattle.std.proofs.Math.Option.{some}
 use Rattle.std.proofs.Math.ListN.{get_elem?}
-use Rattle.rules.specs.Names.{domain, wildcard, dns_within, half_id, dns_id_by, dns_matches_by, dns_reaches_by, srv_id, in_subtree}
+use Rattle.rules.specs.Names.{domain, wildcard, dns_id, dns_matches, dns_within, dns_reaches, srv_id, in_subtree}
 use Rattle.rules.specs.Der.{Member}
 use Rattle.rules.specs.San.{GeneralName, plain, other, srv_oid}
 use Rattle.rules.specs.Constraints.{permitted, excluded}
@@ -34,12 +34,12 @@ module _ (Is : GeneralName → List ℕ → Type 0) (id : List ℕ → Bool) (in
         ⊎ (((subtree : List ℕ) × Subtree Is string permitted subtree)
         × ((subtree : List ℕ) → Subtree Is string permitted subtree → ¬ T (inside subtree text)))
 
--- which names break a string; 8/13: half-label names count "if any record has 1"
-pub record BreaksString (half : Bool) (string : List (Member GeneralName)) (name : GeneralName) : Type 0 where
-  pub srv : (text : List ℕ) → IsSrv name text → T (breaks half string name) ↔ Breaks IsSrv srv_id in_subtree in_subtree string text
-  pub dns : (text : List ℕ) → IsDns name text → T (breaks half string name) ↔ Breaks IsDns (dns_id_by half) dns_within (dns_reaches_by half) string text
+-- which names break a string
+pub record BreaksString (string : List (Member GeneralName)) (name : GeneralName) : Type 0 where
+  pub srv : (text : List ℕ) → IsSrv name text → T (breaks string name) ↔ Breaks IsSrv srv_id in_subtree in_subtree string text
+  pub dns : (text : List ℕ) → IsDns name text → T (breaks string name) ↔ Breaks IsDns dns_id dns_within dns_reaches string text
   -- "Other forms in the constraints are read and passed over."
-  pub others : ((text : List ℕ) → ¬ IsSrv name text) → ((text : List ℕ) → ¬ IsDns name text) → ¬ T (breaks half string name)
+  pub others : ((text : List ℕ) → ¬ IsSrv name text) → ((text : List ℕ) → ¬ IsDns name text) → ¬ T (breaks string name)
 
 -- one of these strings has an excluded dNSName subtree of this text
 pub record Excluded (strings : List (List (Member GeneralName))) (subtree : List ℕ) : Type 0 where
@@ -49,18 +49,14 @@ pub record Excluded (strings : List (List (Member GeneralName))) (subtree : List
   pub excluded_there : Subtree IsDns string excluded subtree
 
 -- a dNSName of this text breaks none of them
-abbrev pub BreaksNone : Bool → List (List (Member GeneralName)) → List ℕ → Type 0
-BreaksNone half strings text =
-    (issuer : ℕ) (string : List (Member GeneralName)) → get_elem? strings issuer ≡ some string → ¬ T (breaks half string (plain 0x82 text))
+abbrev pub BreaksNone : List (List (Member GeneralName)) → List ℕ → Type 0
+BreaksNone strings text =
+    (issuer : ℕ) (string : List (Member GeneralName)) → get_elem? strings issuer ≡ some string → ¬ T (breaks string (plain 0x82 text))
 
-pub record KeptOut (half : Bool) (strings : List (List (Member GeneralName))) (text subtree : List ℕ) : Type 0 where
+pub record KeptOut (strings : List (List (Member GeneralName))) (text subtree : List ℕ) : Type 0 where
   -- "a wildcard dNSName that breaks no string matches no domain in an excluded dNSName subtree"
   pub wildcard_kept_out :
-      T (wildcard text) → BreaksNone half strings text → Excluded strings subtree
-      → (d : List ℕ) → T (domain d) → T (dns_within subtree d) → ¬ T (dns_matches_by half d text)
-  -- 8/13: nor does a half-label name
-  pub half_kept_out :
-      T (half_id text) → BreaksNone half strings text → Excluded strings subtree
-      → (d : List ℕ) → T (domain d) → T (dns_within subtree d) → ¬ T (dns_matches_by half d text)
+      T (wildcard text) → BreaksNone strings text → Excluded strings subtree
+      → (d : List ℕ) → T (domain d) → T (dns_within subtree d) → ¬ T (dns_matches d text)
   -- and a dNSName without a wildcard lies in none
-  pub plain_kept_out : T (domain text) → BreaksNone half strings text → Excluded strings subtree → ¬ T (dns_within subtree text)
+  pub plain_kept_out : T (domain text) → BreaksNone strings text → Excluded strings subtree → ¬ T (dns_within subtree text)

@@ -1,14 +1,14 @@
 -- The three demands on the name check, as statements about the very names that the public contracts cite: `outcome_on`,
 -- `verdict_on` and their fellows, `listing_on`, `table_on` (crates/reading/specs/Calls.antt) and `shown`. Each field stands under the
 -- sentence that it says, of the demand or of document 01; proofs/Demands.antt proves them all.
-use Rattle.std.specs.Prelude.{ℕ, zero, suc, ◌+◌, ◌-◌, ◌%◌, ◌≤◌, ◌<◌, ◌≡◌, ◌↔◌, ◌≢◌, ◌⊎◌, Bool, cond, List, [], ◌∷◌, ◌++◌, map, length, take, drop, T, eqb, ltb}
+use Rattle.std.specs.Prelude.{ℕ, zero, suc, ◌+◌, ◌-◌, ◌%◌, ◌≤◌, ◌<◌, ◌≡◌, ◌↔◌, ◌≢◌, ◌⊎◌, cond, List, [], ◌∷◌, ◌++◌, map, length, take, drop, T, eqb, ltb}
 use Rattle.std.proofs.Math.Option.{some}
 use Rattle.std.proofs.Math.ListN.{get_elem?}
 use Rattle.rules.specs.Bytes.{part}
 use Rattle.rules.specs.Numbers.{san_limit, subject_limit, constraints_limit, records_limit, most_issuers, dns_kind, srv_kind, uri_kind, cn_kind}
 use Rattle.rules.specs.Numbers.{san_unreadable, subject_unreadable, constraints_unreadable}
-use Rattle.rules.specs.Names.{dns_matches_by, srv_matches, uri_matches}
-use Rattle.rules.specs.Records.{Reference, good_records, any_half, shown}
+use Rattle.rules.specs.Names.{dns_matches, srv_matches, uri_matches}
+use Rattle.rules.specs.Records.{Reference, good_records, shown}
 use Rattle.rules.specs.Der.{Member, Group, groups, length_bytes, element, run, Writes}
 use Rattle.rules.specs.San.{GeneralName, plain, other, srv_oid, write_name}
 use Rattle.rules.specs.Subject.{Attribute, is_cn, cn_oid, cn_tag, write_attribute, write_set}
@@ -19,7 +19,6 @@ use Rattle.rules.specs.Verdict.{numbers, past, outcome_of, with_place, all_numbe
 use Rattle.rules.specs.declared.Row.{Row}
 use Rattle.rules.specs.declared.Shown.{Shown}
 use Rattle.demands.specs.Issuers.{BreaksString, KeptOut}
-use Rattle.demands.specs.Halves.{HalfExcluded, Stays}
 use Rattle.reading.specs.Calls.{Inputs, outcome_on, verdict_on, witness_text_on, witness_part_on, witness_place_on, listing_on, table_on}
 
 -- ==== What is spoken of
@@ -176,7 +175,7 @@ pub record BreaksAt (l : Names) (k i : ℕ) : Type 0 where
   pub string_at_lem : get_elem? l.constraints k ≡ some string
   pub entry : GeneralName
   pub entry_at : get_elem? l.san i ≡ some entry
-  pub broken : T (breaks (any_half l.references) string entry)
+  pub broken : T (breaks string entry)
 
 -- the reference r matches the presented identifier at j: an entry of the SAN, or an attribute of the subject
 pub record MatchesAt (l : Names) (r : Reference) (j : ℕ) : Type 0 where
@@ -321,7 +320,7 @@ pub record Kinds (l : Names) (r : Reference) (j : ℕ) : Type 0 where
   -- a DNS reference: a dNSName whose text is a DNS-ID that matches the domain
   pub dns :
       r.kind ≡ dns_kind
-      → MatchesAt l r j ↔ (text : List ℕ) × (get_elem? l.san j ≡ some (plain 0x82 text)) × T (dns_matches_by r.half r.domain text)
+      → MatchesAt l r j ↔ (text : List ℕ) × (get_elem? l.san j ≡ some (plain 0x82 text)) × T (dns_matches r.domain text)
   -- an SRV reference: an SRVName whose text is an SRV-ID that matches service and domain
   pub srv :
       r.kind ≡ srv_kind
@@ -340,7 +339,7 @@ pub record Kinds (l : Names) (r : Reference) (j : ℕ) : Type 0 where
       → MatchesAt l r j
       ↔ ((i : ℕ) (entry : GeneralName) → get_elem? l.san i ≡ some entry → ¬ T (blocks_cn entry))
       × ((a : Member Attribute) × (get_elem? l.subject j ≡ some a) × T (is_cn a.value) × T (cn_tag a.value.tag)
-      × T (sole_cn l.subject a.group) × T (dns_matches_by r.half r.domain a.value.content))
+      × T (sole_cn l.subject a.group) × T (dns_matches r.domain a.value.content))
 
 pub record Demand2 : Type 0 where
   -- "the pair reported is the first (lowest reference, then lowest name)"
@@ -364,12 +363,9 @@ pub record Demand2 : Type 0 where
       → (a : Member Attribute) × (get_elem? l.subject j ≡ some a) × (m.presented.row.group ≡ a.group)
       × (get_elem? (subject_input.grammar.rows l.subject) j ≡ some m.presented.row)
   -- what it means that a name breaks an issuer's constraints
-  pub breaks : (half : Bool) (string : List (Member GeneralName)) (name : GeneralName) → BreaksString half string name
+  pub breaks : (string : List (Member GeneralName)) (name : GeneralName) → BreaksString string name
   -- 6/13: "prove that a wildcard dNSName that breaks no string matches no domain in an excluded dNSName subtree"
-  pub kept_out : (half : Bool) (strings : List (List (Member GeneralName))) (text subtree : List ℕ) → KeptOut half strings text subtree
-  -- 8/13: a half-label name "breaks an excluded one if any domain it matches lies there", and "If none has, all answers stay"
-  pub half_excluded : (text subtree : List ℕ) → HalfExcluded text subtree
-  pub stays : Stays
+  pub kept_out : (strings : List (List (Member GeneralName))) (text subtree : List ℕ) → KeptOut strings text subtree
   -- ---- consequences of demand 1, in the words of this one
   -- "a match exactly when some presented name matches some reference"
   pub match :

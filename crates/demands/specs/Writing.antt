@@ -1,8 +1,8 @@
 -- Request 4/13, the writers, as statements about the very names that their contracts cite: `written_by` and `buffer_by`
 -- (crates/rules/specs/Writing.antt). Each field stands under the sentence that it says; proofs/Writings.antt proves them all.
-use Rattle.std.specs.Prelude.{ℕ, ◌*◌, ◌≤◌, ◌<◌, ◌≡◌, false, ◌≢◌, List, [], ◌∷◌, ◌++◌, map, length, take, drop, T}
+use Rattle.std.specs.Prelude.{ℕ, ◌*◌, ◌≤◌, ◌<◌, ◌≡◌, ◌≢◌, List, [], ◌∷◌, ◌++◌, map, length, take, drop, T}
 use Rattle.rules.specs.Bytes.{all, sum}
-use Rattle.rules.specs.Records.{Reference, any_half}
+use Rattle.rules.specs.Records.{Reference}
 use Rattle.rules.specs.Der.{run}
 use Rattle.rules.specs.Seen.{listed, san_input, Sees, seen_records}
 use Rattle.rules.specs.Writing.{Request, request, Writer, asked, result_of, written_by, buffer_by, Identifier, good_identifier, name_for, san_writer, record_writer}
@@ -70,9 +70,8 @@ records_request l =
 
 pub record RecordWriter : Type 0 where
   pub calls : (q : Request) → WriterCalls record_writer q
-  -- the list that is asked for is any list of references without half labels. 8/13: "4/13's writers stay"
-  pub asked_for : (l : List Reference) → any_half l ≡ false → asked record_writer (records_request l) ≡ l
-  pub no_half : (q : Request) → any_half (asked record_writer q) ≡ false
+  -- the list that is asked for is any list of references
+  pub asked_for : (l : List Reference) → asked record_writer (records_request l) ≡ l
   -- "What is written reads back as that list": it is within its limit, its records are good, and they say that list
   pub reads_back :
       (q : Request) (lent : ℕ) → (written_by record_writer q lent).answer ≡ 0

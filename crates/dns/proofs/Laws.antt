@@ -9,13 +9,12 @@ use lib.Dec.{eqb}
 use borrow.Author.Tests.{eq-eqb, ne_eqb, eqb-true, eqb-false, le-leb, lt-leb, not-true, not-false}
 use Rattle.octets.proofs.Cases.{by_cases, and_right, fails, clash, eqb_swap}
 use Rattle.octets.proofs.Place.{passes_at, part_after, one_passes}
-use Rattle.octets.proofs.Parts.{rest_is, first_long}
+use Rattle.octets.proofs.Parts.{rest_is}
 use Rattle.names.proofs.Labels.{two_labels_lem}
 use Rattle.rules.specs.Bytes.{any, begins, before, after}
 use Rattle.rules.specs.Names.{is, star, dot, domain, same_text, dns_id, dns_matches}
 use Rattle.dns.specs.Wildcard.{wild_domain, past_first, wild_matches}
 use Rattle.dns.proofs.Subtrees
-use Rattle.dns.proofs.Halves
 use Rattle.dns.proofs.Known.{first_at, known_length, known_other, known_same, known_wild, known_plain}
 use Rattle.dns.proofs.Matching.{wild, wild_is, wild_id, plain_id, wild_matches_lem, plain_matches}
 
@@ -124,7 +123,6 @@ module _ (reference text : List ℕ) (w : Bool) (is_wild : w ≡ wild text) wher
     plain_same e n r g = rw (plain_matches reference text (sym is_wild ∙ e), ← is_same, not-false same n) g
 
 pub ruleset laws = (
-  first_long,
   wild_short,
   wild_first,
   wild_second,
@@ -153,45 +151,5 @@ pub ruleset laws = (
   Subtrees.within_some,
   Subtrees.reaches_inside,
   Subtrees.reaches_wild,
-  Subtrees.reaches_half,
   Subtrees.reaches_plain,
-  Halves.xn_short,
-  Halves.xn_first,
-  Halves.xn_second,
-  Halves.xn_third,
-  Halves.xn_fourth,
-  Halves.xn_letters,
-  Halves.half_few,
-  Halves.half_loose,
-  Halves.half_whole,
-  Halves.half_odd,
-  Halves.half_tail,
-  Halves.half_is,
-  Halves.half_id_long,
-  Halves.half_id_one,
-  Halves.half_id_label,
-  Halves.half_id_rest,
-  Halves.half_id_is,
-  Halves.accepts_room,
-  Halves.accepts_short,
-  Halves.accepts_none,
-  Halves.accepts_front,
-  Halves.accepts_back,
-  Halves.accepts_is,
-  Halves.matches_first,
-  Halves.matches_one,
-  Halves.matches_others,
-  Halves.matches_room,
-  Halves.matches_dot,
-  Halves.matches_refused,
-  Halves.matches_is,
-  Halves.by_whole,
-  Halves.by_half,
-  Halves.by_none,
-  Halves.match_whole,
-  Halves.match_half,
-  Halves.match_none,
-  Halves.flagged_half,
-  Halves.flagged_wild,
-  Halves.flagged_plain,
 )

@@ -2,7 +2,7 @@
 use Prim.Native.Nat.{ℕ, ◌-◌}
 use mathlib.Core.Path.{◌≡◌, refl, sym, ap, ◌∙◌}
 use mathlib.Core.List.{List, [], ◌∷◌}
-use mathlib.Core.Bool.{Bool, true, false, and-false, or-true, or-false, true≢false}
+use mathlib.Core.Bool.{Bool, true, false, and-false}
 use native.Mathlib.Omega.{arith}
 use lib.ListN.{length, take, drop}
 use Rattle.octets.proofs.Cases.{by_cases}
@@ -10,8 +10,7 @@ use Rattle.octets.proofs.Parts.{rest_is}
 use Rattle.names.proofs.Labels.{others, labels_are, same_domain_lem}
 use Rattle.rules.proofs.SameLabels.{last_none}
 use Rattle.rules.specs.Bytes.{any, after}
-use Rattle.rules.specs.Names.{is, dot, domain, labels, same_labels, same_domain, domain_within, wildcard, dns_id, dns_restriction, subtree_labels, dns_within, one_label_then, dns_reaches, last_labels, half_id, half_matches, dns_id_by, dns_reaches_by}
-use Rattle.rules.proofs.HalfLabels.{half_first, begins_short}
+use Rattle.rules.specs.Names.{is, dot, domain, labels, same_labels, same_domain, domain_within, wildcard, dns_id, dns_restriction, subtree_labels, dns_within, one_label_then, dns_reaches}
 use Rattle.dns.specs.Wildcard.{past_first}
 use Rattle.dns.proofs.Matching.{wild, wild_is, star_first}
 
@@ -40,43 +39,28 @@ within_some (x ∷ s) name h r e = e
 -- ---- one label and then the text
 
 -- by bytes: what stands past the first dot is the text
-pub one_label : (t subtree : List ℕ) → one_label_then t subtree ≡ past_first subtree t
+one_label : (t subtree : List ℕ) → one_label_then t subtree ≡ past_first subtree t
 unfolding one_label_then past_first others same_domain same_labels
 one_label t subtree =
     rw (labels_are subtree)
     (by_cases (any (is dot) subtree) (λ e. rw e (same_domain_lem t (after (is dot) subtree))) (λ e. rw (e, labels_are t)))
 
-module _ (half : Bool) (subtree name : List ℕ) (inside : Bool) (is_inside : inside ≡ dns_within subtree name) where
-  pub reaches_inside : inside ≡ true → true ≡ dns_reaches_by half subtree name
-  unfolding dns_reaches_by dns_reaches
-  reaches_inside e = rw (← is_inside, e, or-true)
+module _ (subtree name : List ℕ) (inside : Bool) (is_inside : inside ≡ dns_within subtree name) where
+  pub reaches_inside : inside ≡ true → true ≡ dns_reaches subtree name
+  unfolding dns_reaches
+  reaches_inside e = rw (← is_inside, e)
 
   module _ (w : Bool) (is_wild : w ≡ wild name) where
-    -- a name that begins with `*.` is no half-label name
-    not_half : w ≡ true → half_id name ≡ false
-    not_half e =
-        by_cases (half_id name) (λ h. absurd (true≢false (sym (half_first name h).long ∙ begins_short name (sym is_wild ∙ e)))) (λ h. h)
-
     -- a DNS-ID that begins with `*.` is a wildcard
-    is_wildcard : dns_id_by half name ≡ true → w ≡ true → wildcard name ≡ true
-    unfolding dns_id_by dns_id
-    is_wildcard i e =
-        let f : domain name ≡ false = ap domain (wild_is name (sym is_wild ∙ e)) ∙ star_first (dot ∷ drop 2 name) in
-        rw (not_half e, and-false half, f) at i
+    is_wildcard : dns_id name ≡ true → w ≡ true → wildcard name ≡ true
+    unfolding dns_id
+    is_wildcard i e = rw (ap domain (wild_is name (sym is_wild ∙ e)) ∙ star_first (dot ∷ drop 2 name)) at i
 
-    pub reaches_wild : dns_id_by half name ≡ true → inside ≡ false → w ≡ true → (r : Bool) → r ≡ past_first subtree (take (length name - 2) (drop 2 name))
-        → r ≡ dns_reaches_by half subtree name
-    unfolding dns_reaches_by dns_reaches half_matches
-    reaches_wild i f e r g = (rw (rest_is name 2) at g) ∙ rw (not_half e, and-false half, ← is_inside, f, is_wildcard i e, one_label)
+    pub reaches_wild : dns_id name ≡ true → inside ≡ false → w ≡ true → (r : Bool) → r ≡ past_first subtree (take (length name - 2) (drop 2 name))
+        → r ≡ dns_reaches subtree name
+    unfolding dns_reaches
+    reaches_wild i f e r g = (rw (rest_is name 2) at g) ∙ rw (← is_inside, f, is_wildcard i e, one_label)
 
-    reaches_not : inside ≡ false → w ≡ false → dns_reaches subtree name ≡ false
+    pub reaches_plain : inside ≡ false → w ≡ false → false ≡ dns_reaches subtree name
     unfolding dns_reaches wildcard
-    reaches_not f e = rw (← is_inside, f, ← is_wild, e, and-false)
-
-    pub reaches_half : inside ≡ false → w ≡ false → half ≡ true → (r : Bool) → r ≡ half_matches subtree name → r ≡ dns_reaches_by half subtree name
-    unfolding dns_reaches_by
-    reaches_half f e h r g = g ∙ rw (h, reaches_not f e, or-false (half_matches subtree name))
-
-    pub reaches_plain : inside ≡ false → w ≡ false → half ≡ false → false ≡ dns_reaches_by half subtree name
-    unfolding dns_reaches_by
-    reaches_plain f e h = rw (h, reaches_not f e)
+    reaches_plain f e = rw (← is_inside, f, ← is_wild, e, and-false)

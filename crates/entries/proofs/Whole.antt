@@ -26,7 +26,7 @@ use Rattle.der.specs.Places.{place_element, element_at, found?}
 use Rattle.der.specs.Reads.{found_read, part_of_part}
 use Rattle.der.specs.Runs.{start_of}
 use Rattle.der.specs.declared.Element.TheVariants.{Found}
-use Rattle.entries.specs.Entries.{srv_oid_at, text_tag_of, text_of, place_name, other_at, form_text, whole_at, place_text, text_place}
+use Rattle.entries.specs.Entries.{srv_oid_at, text_tag_of, text_of, place_name, other_at, form_of, whole_at, place_text, text_place}
 use Rattle.entries.specs.declared.Name.{Name}
 use Rattle.entries.specs.declared.Name.TheVariants.{Is, Malformed}
 
@@ -341,8 +341,8 @@ module _ (s : List ℕ) (at end : ℕ) (h : at + 2 ≤ end) (fits : end ≤ leng
 
   -- the form that a kind asks for
   module _ (kind r : ℕ) where
-    pub kind_srv : kind ≡ 9 → r ≡ text_place srv_text s at end → r ≡ text_place (form_text kind) s at end
+    pub kind_srv : kind ≡ 9 → r ≡ text_place srv_text s at end → r ≡ text_place (form_of kind).text s at end
     kind_srv e f = f ∙ rw (eq-eqb kind 9 e)
 
-    pub kind_dns : (kind ≡ 9 → ⊥) → r ≡ text_place (tagged_text 0x82) s at end → r ≡ text_place (form_text kind) s at end
+    pub kind_dns : (kind ≡ 9 → ⊥) → r ≡ text_place (tagged_text 0x82) s at end → r ≡ text_place (form_of kind).text s at end
     kind_dns e f = f ∙ rw (ne_eqb kind 9 e)

@@ -4,7 +4,7 @@ ghost use Rattle.std.specs.Prelude.{◌+◌, ◌≤◌, ◌≡◌, true, length,
 ghost use Rattle.rules.specs.San.{text_tag, sealed_tag};
 ghost use Rattle.rules.specs.Matching.{srv_text, tagged_text};
 ghost use Rattle.reading.specs.Reader.{is_some};
-ghost use Rattle.entries.specs.Entries.{srv_oid_at, cn_oid_at, other_at, name_at, kind_by, attribute_at, subtree_at, ascii_at, good_srv_at, good_name_at, good_subtree_name_at, good_subtree_at, form_text, whole_at, text_place};
+ghost use Rattle.entries.specs.Entries.{srv_oid_at, cn_oid_at, other_at, name_at, kind_by, attribute_at, subtree_at, ascii_at, good_srv_at, good_name_at, good_subtree_name_at, good_subtree_at, form_of, whole_at, text_place};
 
 use der::{Element, content_start, read_element, tagged, value};
 use dns::dns_restriction;
@@ -435,7 +435,7 @@ pub fn name_text(s: &[u8], at: usize, end: usize, kind: usize) -> usize
     requires at_bound { at + 2 ≤ end }
     requires end_in_bounds { end ≤ length s.now }
     requires end_value { is_some (whole_at s.now at end) ≡ true }
-    ensures { result ≡ text_place (form_text kind) s.now at end }
+    ensures { result ≡ text_place (form_of kind).text s.now at end }
 {
     if kind == 9 {
         return srv_text(s, at, end);

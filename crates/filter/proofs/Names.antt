@@ -6,7 +6,7 @@ use mathlib.Core.Option.{Option, none, some}
 use mathlib.Core.List.{List, [], ◌∷◌}
 use lib.ListN.{drop}
 use Rattle.rules.specs.Bytes.{any, find, after}
-use Rattle.rules.specs.Names.{is, dot, same_text, dns_matches, dns_matches_by, where_given}
+use Rattle.rules.specs.Names.{is, dot, same_text, dns_matches, where_given}
 use Rattle.rules.specs.Numbers.{dns_kind}
 use Rattle.rules.specs.Records.{Reference}
 use Rattle.rules.specs.San.{GeneralName}
@@ -44,15 +44,15 @@ module _ (table : List ℕ) where
         (λ w. rw (plain_matches reference text w, other_text text reference (rw w at e) whole))
 
     -- no name presents a text that matches
-    pub skipped : (r : Reference) → r.half ≡ false → r.kind ≡ dns_kind → r.domain ≡ reference → (rows : List Row) (names : List GeneralName)
+    pub skipped : (r : Reference) → r.kind ≡ dns_kind → r.domain ≡ reference → (rows : List Row) (names : List GeneralName)
         → has_all table names ≡ true → find (matches r) (presented_in (entry_text dns_kind) rows names) ≡ none
-    unfolding has_all has_name presented_in entry_text matches text_matches dns_matches_by
-    skipped r f k d [] names e = refl
-    skipped r f k d (row ∷ rows) [] e = refl
-    skipped r f k d (row ∷ rows) (n ∷ names) e =
+    unfolding has_all has_name presented_in entry_text matches text_matches
+    skipped r k d [] names e = refl
+    skipped r k d (row ∷ rows) [] e = refl
+    skipped r k d (row ∷ rows) (n ∷ names) e =
         let here = and_left (has_name table n) (has_all table names) e in
-        rw (go (tagged_text 0x82 n) here) (skipped r f k d rows names (and_right (has_name table n) (has_all table names) e))
+        rw (go (tagged_text 0x82 n) here) (skipped r k d rows names (and_right (has_name table n) (has_all table names) e))
       where
         go : (o : Option (List ℕ)) → where_given o (λ text. has table (key_of (noted_text text))) ≡ true → if_some o (text_matches r) ≡ false
         go none p = refl
-        go (some text) p = rw (k, f, d) (text_skipped text p)
+        go (some text) p = rw (k, d) (text_skipped text p)

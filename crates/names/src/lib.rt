@@ -7,7 +7,7 @@ ghost use Rattle.names.specs.Label as label;
 ghost use Rattle.names.specs.Pairs as pairs;
 
 // How many letters, digits and hyphens s begins with.
-pub fn run_length(s: &[u8]) -> usize
+fn run_length(s: &[u8]) -> usize
     ensures { (result ≡ length (before label.outside s.now)) × (result ≤ length s.now) }
 {
     let mut i = 0;
@@ -22,7 +22,7 @@ pub fn run_length(s: &[u8]) -> usize
 }
 
 // One to max bytes, no hyphen at either end.
-pub fn bounded(s: &[u8], max: usize) -> bool
+fn bounded(s: &[u8], max: usize) -> bool
     ensures { result ≡ label.bounded max s.now }
 {
     let n = s.len();

@@ -9,13 +9,13 @@ use lib.Dec.{eqb}
 use borrow.Author.Tests.{ne_eqb, le-leb, lt-leb}
 use Rattle.rules.proofs.Cases.{by_cases, and_left, and_right}
 use Rattle.rules.specs.Bytes.{part}
-use Rattle.rules.specs.Names.{domain, two_labels, service, scheme, dns_matches, dns_matches_by, srv_matches, uri_matches}
-use Rattle.rules.specs.Records.{Reference, reference, reference_by, good_service, good_reference}
+use Rattle.rules.specs.Names.{domain, two_labels, service, scheme, dns_matches, srv_matches, uri_matches}
+use Rattle.rules.specs.Records.{Reference, reference, good_service, good_reference}
 use Rattle.rules.specs.Matching.{text_matches}
 use Rattle.presented.specs.declared.Entry.{Entry}
 use Rattle.pairs.specs.Pairs.{text_at, entry_matches}
 
-module _ (half : Bool) (kind : ℕ) (v d : List ℕ) (g : good_reference (reference_by half kind v d) ≡ true) where
+module _ (kind : ℕ) (v d : List ℕ) (g : good_reference (reference kind v d) ≡ true) where
   fit : good_service kind v ≡ true
   unfolding good_reference
   fit = and_left _ (domain d) (and_left (good_service kind v && domain d) (two_labels d) g)
@@ -34,32 +34,21 @@ module _ (half : Bool) (kind : ℕ) (v d : List ℕ) (g : good_reference (refere
 
   module _ (text : List ℕ) (r : Bool) where
     -- an SRV reference
-    pub text_srv : kind ≡ 2 → r ≡ srv_matches v d text → r ≡ text_matches (reference_by half kind v d) text
+    pub text_srv : kind ≡ 2 → r ≡ srv_matches v d text → r ≡ text_matches (reference kind v d) text
     unfolding text_matches
     text_srv e r_is = r_is ∙ rw e
 
     -- a URI reference
-    pub text_uri : kind ≡ 3 → r ≡ uri_matches v d text → r ≡ text_matches (reference_by half kind v d) text
+    pub text_uri : kind ≡ 3 → r ≡ uri_matches v d text → r ≡ text_matches (reference kind v d) text
     unfolding text_matches
     text_uri e r_is = r_is ∙ rw e
 
     -- a DNS or a CN reference: no other kind is good
-    pub text_dns : (kind ≡ 2 → ⊥) → (kind ≡ 3 → ⊥) → r ≡ dns_matches_by half d text → r ≡ text_matches (reference_by half kind v d) text
+    pub text_dns : (kind ≡ 2 → ⊥) → (kind ≡ 3 → ⊥) → r ≡ dns_matches d text → r ≡ text_matches (reference kind v d) text
     unfolding text_matches good_service
     text_dns e f r_is =
         by_cases (eqb kind 1 || eqb kind 4) (λ q. r_is ∙ rw q)
         (λ q. absurd (true≢false (sym fit ∙ rw (q, ne_eqb kind 2 e, ne_eqb kind 3 f))))
-
--- a reference without half labels
-pub text_whole : (kind : ℕ) (v d : List ℕ) → good_reference (reference kind v d) ≡ true → (text : List ℕ) (r : Bool)
-    → (kind ≡ 2 → ⊥) → (kind ≡ 3 → ⊥) → r ≡ dns_matches d text → r ≡ text_matches (reference kind v d) text
-unfolding dns_matches_by
-text_whole kind v d g text r e f r_is = text_dns false kind v d g text r e f r_is
-
--- a DNS reference that accepts half labels
-pub text_flagged : (d text : List ℕ) (r : Bool) → r ≡ dns_matches_by true d text → r ≡ text_matches (reference_by true 1 [] d) text
-unfolding text_matches
-text_flagged d text r r_is = r_is
 
 -- ---- a text by its place
 
@@ -75,13 +64,13 @@ module _ (r : Reference) (s : List ℕ) (text end : ℕ) where
 
 -- ---- a set of the subject
 
-module _ (half : Bool) (d s : List ℕ) (e : Entry) where
-  pub set_silent : e.presents ≡ false → false ≡ entry_matches (reference_by half 4 [] d) s e
+module _ (d s : List ℕ) (e : Entry) where
+  pub set_silent : e.presents ≡ false → false ≡ entry_matches (reference 4 [] d) s e
   unfolding entry_matches
   set_silent f = rw f
 
   pub set_text : e.presents ≡ true → (q : Bool)
-      → q ≡ dns_matches_by half d (take (e.text.start + e.text.length - e.text.start) (drop e.text.start s)) → q ≡ entry_matches (reference_by half 4 [] d) s e
+      → q ≡ dns_matches d (take (e.text.start + e.text.length - e.text.start) (drop e.text.start s)) → q ≡ entry_matches (reference 4 [] d) s e
   unfolding entry_matches text_matches part
   set_text f q q_is =
       let m : e.text.start + e.text.length - e.text.start ≡ e.text.length = omega arith in

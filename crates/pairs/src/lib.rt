@@ -1,23 +1,21 @@
 // The first pair of a reference and a presented identifier that match: lowest reference, then lowest name.
 ghost use Rattle.std.specs.Prelude.{◌+◌, ◌≤◌, ◌<◌, ◌/◌, ◌≡◌, true, false, [], length, drop};
 ghost use Rattle.rules.specs.Bytes.{before};
-ghost use Rattle.rules.specs.Names as names;
 ghost use Rattle.rules.specs.Names.{dot, is};
-ghost use Rattle.rules.specs.Numbers.{record_size, dns_kind, cn_kind};
-ghost use Rattle.rules.specs.Records.{reference, reference_by, good_reference, good_records, references_of, any_half};
-ghost use Rattle.rules.specs.Matching.{text_matches, first_pair};
+ghost use Rattle.rules.specs.Numbers.{record_size, cn_kind};
+ghost use Rattle.rules.specs.Records.{reference, good_reference, good_records, references_of};
+ghost use Rattle.rules.specs.Matching.{presented_to, text_matches, first_pair};
 ghost use Rattle.rules.specs.Verdict.{matched_or};
 ghost use Rattle.reading.specs.Strings.{read_san, read_subject};
 ghost use Rattle.der.specs.Runs.{validated, names_of};
 ghost use Rattle.presented.specs.Presented.{shown_at};
 ghost use Rattle.records.specs.References.{reference_at};
-ghost use Rattle.pairs.specs.Pairs.{text_at, entry_matches, witness_at, found_between, held_by, WholeBetween, flagged_at, first_entry, Filters, HeldFits, OutcomeFits};
+ghost use Rattle.pairs.specs.Pairs.{text_at, entry_matches, witness_at, found_for, found_between, held_by, first_entry, Filters, HeldFits, OutcomeFits};
 
 use der::element_end;
-use entries::tagged_text;
 use filter::{TABLE_SIZE, may_match, note};
 use presented::{Entry, entry_text, first_set, names_start, set_at};
-use records::{domain_of, half_of, kind_of, service_of};
+use records::{domain_of, kind_of, service_of};
 use rules::{CN, DNS, Outcome, Place, RECORD_SIZE, SRV, URI, Witness};
 
 // The witness of the first identifier that matches, if one does.
@@ -64,29 +62,16 @@ fn name_matches(
     text_matches(kind, service, domain, first, &s[text..end])
 }
 
-// The same of a DNS reference that accepts half labels.
-fn flagged_name_matches(domain: &[u8], first: usize, s: &[u8], text: usize, end: usize) -> bool
-    requires domain_value { names.domain domain.now ≡ true }
-    requires first_value { (first ≡ length (before (is dot) domain.now)) × (first ≤ length domain.now) }
-    requires end_in_bounds { end ≤ length s.now }
-    ensures { result ≡ text_at (reference_by true dns_kind [] domain.now) s.now text end }
-{
-    if end < text {
-        return false;
-    }
-    dns::flagged_matches(domain, first, &s[text..end])
-}
-
 // Whether a set of the subject presents a text that matches the domain of a CN reference.
-fn set_matches(half: bool, domain: &[u8], subject: &[u8], e: Entry) -> bool
+fn set_matches(domain: &[u8], subject: &[u8], e: Entry) -> bool
     requires { e.text.start + e.text.length ≤ length subject.now }
-    ensures { result ≡ entry_matches (reference_by half cn_kind [] domain.now) subject.now e }
+    ensures { result ≡ entry_matches (reference cn_kind [] domain.now) subject.now e }
 {
     if e.presents {
         let text = e.text;
         let start = text.start;
         let end = start + text.length;
-        return dns::dns_matches_by(half, domain, &subject[start..end]);
+        return dns::dns_matches(domain, &subject[start..end]);
     }
     false
 }
@@ -98,16 +83,15 @@ fn first_cn(references: &[u8], i: usize, san: &[u8], subject: &[u8]) -> Held
     requires i_value { (reference_at references.now i).kind ≡ cn_kind }
     requires san_value { validated read_san san.now ≡ true }
     requires subject_value { validated read_subject subject.now ≡ true }
-    ensures value { result ≡ held_by (found_between references.now san.now subject.now i (i + 1)) }
+    ensures value { result ≡ held_by (found_for i (reference_at references.now i) (presented_to cn_kind (names_of read_san san.now) (names_of read_subject subject.now))) }
     ensures held_fits { HeldFits references.now san.now subject.now result }
 {
-    let half = half_of(references, i);
     let domain = domain_of(references, i);
     let mut at = first_set(san, subject);
     let mut j: usize = 0;
     while at < subject.len() {
         let e = set_at(subject, at);
-        let hit = set_matches(half, domain, subject, e);
+        let hit = set_matches(domain, subject, e);
         if hit {
             let element = e.element;
             let text = e.text;
@@ -172,8 +156,7 @@ fn first_entry(
     end
 }
 
-// The first pair of the references from one index to another: lowest reference, then lowest name. Half labels are asked for by those of a
-// CN alone.
+// The first pair of the references from one index to another: lowest reference, then lowest name.
 fn first_between(
     references: &[u8],
     from: usize,
@@ -185,7 +168,6 @@ fn first_between(
     requires references_value { good_records references.now ≡ true }
     requires from_le_to { from ≤ to }
     requires to_in_bounds { to ≤ length references.now / record_size }
-    requires whole_between { WholeBetween references.now from to }
     requires san_value { validated read_san san.now ≡ true }
     requires subject_value { validated read_subject subject.now ≡ true }
     requires filters { Filters table.now (names_of read_san san.now) }
@@ -232,7 +214,6 @@ fn first_between(
 // held against none of them.
 fn first_of_others(references: &[u8], san: &[u8], subject: &[u8]) -> Held
     requires references_value { good_records references.now ≡ true }
-    requires references_value_2 { any_half (references_of references.now) ≡ false }
     requires san_value { validated read_san san.now ≡ true }
     requires subject_value { validated read_subject subject.now ≡ true }
     ensures value { result ≡ held_by (first_pair 1 (drop 1 (references_of references.now)) (names_of read_san san.now) (names_of read_subject subject.now)) }
@@ -247,105 +228,19 @@ fn first_of_others(references: &[u8], san: &[u8], subject: &[u8]) -> Held
     first_between(references, 1, n, san, subject, &table)
 }
 
-// The first pair, where no reference accepts half labels.
-fn first_whole(references: &[u8], san: &[u8], subject: &[u8]) -> Held
+// "the pair reported is the first: lowest reference, then lowest name"
+pub fn first_pair(references: &[u8], san: &[u8], subject: &[u8]) -> Outcome
     requires references_value { good_records references.now ≡ true }
-    requires references_value_2 { any_half (references_of references.now) ≡ false }
-    requires san_value { validated read_san san.now ≡ true }
-    requires subject_value { validated read_subject subject.now ≡ true }
-    ensures value { result ≡ held_by (first_pair 0 (references_of references.now) (names_of read_san san.now) (names_of read_subject subject.now)) }
-    ensures held_fits { HeldFits references.now san.now subject.now result }
-{
-    let c = first_between(references, 0, 1, san, subject, &san[..0]);
-    if let Held::By(w) = c {
-        return Held::By(w);
-    }
-    first_of_others(references, san, subject)
-}
-
-// Whether the reference at an index is a DNS reference that accepts half labels.
-fn flagged_dns(references: &[u8], i: usize) -> bool
-    requires { i < length references.now / record_size }
-    ensures { result ≡ flagged_at references.now i }
-{
-    let kind = kind_of(references, i);
-    if kind == DNS {
-        return half_of(references, i);
-    }
-    false
-}
-
-// The first pair of the first n references, where some accept half labels. The dNSNames are walked here for the DNS references that do; no
-// other walk asks for half labels of a dNSName.
-fn first_by_halves(references: &[u8], n: usize, san: &[u8], subject: &[u8]) -> Held
-    requires references_value { good_records references.now ≡ true }
-    requires n_in_bounds { n ≤ length references.now / record_size }
-    requires san_value { validated read_san san.now ≡ true }
-    requires subject_value { validated read_subject subject.now ≡ true }
-    ensures value { result ≡ held_by (found_between references.now san.now subject.now 0 n) }
-    ensures held_fits { HeldFits references.now san.now subject.now result }
-{
-    let start = names_start(san);
-    let mut found = Held::Nothing;
-    let mut i: usize = 0;
-    'pairs: while i < n {
-        let flagged = flagged_dns(references, i);
-        if flagged {
-            let domain = domain_of(references, i);
-            let first = octets::find(domain, 0x2E);
-            let end = san.len();
-            let mut at = start;
-            let mut j: usize = 0;
-            while at < end {
-                let next = element_end(san, at, end);
-                let text = tagged_text(san, at, next, 0x82);
-                let hit = flagged_name_matches(domain, first, san, text, next);
-                if hit {
-                    let w = entry_witness(i, j, at, text, next);
-                    found = Held::By(w);
-                    break 'pairs;
-                }
-                at = next;
-                j += 1;
-            }
-        } else {
-            let c = first_between(references, i, i + 1, san, subject, &san[..0]);
-            if let Held::By(w) = c {
-                found = Held::By(w);
-                break 'pairs;
-            }
-        }
-        i += 1;
-    }
-    found
-}
-
-// The first pair, by what the caller has found of the references' half labels.
-fn first_held(references: &[u8], san: &[u8], subject: &[u8], half: bool) -> Held
-    requires references_value { good_records references.now ≡ true }
-    requires half_value { half ≡ any_half (references_of references.now) }
-    requires san_value { validated read_san san.now ≡ true }
-    requires subject_value { validated read_subject subject.now ≡ true }
-    ensures value { result ≡ held_by (first_pair 0 (references_of references.now) (names_of read_san san.now) (names_of read_subject subject.now)) }
-    ensures held_fits { HeldFits references.now san.now subject.now result }
-{
-    if half {
-        let n = references.len() / RECORD_SIZE;
-        return first_by_halves(references, n, san, subject);
-    }
-    first_whole(references, san, subject)
-}
-
-// "the pair reported is the first: lowest reference, then lowest name"; `half` says whether any reference accepts half labels.
-pub fn first_pair(references: &[u8], san: &[u8], subject: &[u8], half: bool) -> Outcome
-    requires references_value { good_records references.now ≡ true }
-    requires half_value { half ≡ any_half (references_of references.now) }
     requires san_value { validated read_san san.now ≡ true }
     requires subject_value { validated read_subject subject.now ≡ true }
     ensures value { result ≡ matched_or (first_pair 0 (references_of references.now) (names_of read_san san.now) (names_of read_subject subject.now)) }
     ensures outcome_fits { OutcomeFits references.now san.now subject.now result }
 {
-    let d = first_held(references, san, subject, half);
+    let c = first_between(references, 0, 1, san, subject, &san[..0]);
+    if let Held::By(w) = c {
+        return Outcome::Matched(w);
+    }
+    let d = first_of_others(references, san, subject);
     match d {
         Held::By(w) => Outcome::Matched(w),
         Held::Nothing => Outcome::Mismatched,

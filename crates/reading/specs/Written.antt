@@ -1,16 +1,15 @@
 -- A record that is made of a reference: it says that reference, and its reader takes it exactly where the reference is good.
 use Prim.Native.Nat.{ℕ, zero, suc, ◌-◌, ◌*◌, ◌≤◌}
-use Rattle.std.specs.Prelude.{◌≡◌, true, ◌&&◌, ◌||◌, false, List, [], ◌∷◌, ◌++◌, get_or, drop, replicate, leb}
+use Rattle.std.specs.Prelude.{◌≡◌, true, ◌&&◌, ◌||◌, List, [], ◌∷◌, ◌++◌, get_or, drop, replicate, eqb, leb}
 use Rattle.std.proofs.Math.Path.{refl, ap}
 use Rattle.std.proofs.Common.{sym, ◌∙◌, append_assoc, append-nil, arith, length-append, take_all, le-leb, leb-true, eqb-true}
 use Rattle.std.proofs.Math.ListN.{length, take}
 use Rattle.std.proofs.lemmas.List.{length-replicate}
 use Rattle.std.proofs.Math.Seq.{take-append_seam, drop-append_seam, take_at, drop_at}
-use Rattle.std.proofs.Math.Dec.{eqb}
 use Rattle.rules.specs.Bytes.{part, all, some?}
 use Rattle.rules.specs.Numbers.{record_size, service_size, domain_size, dns_kind, srv_kind, uri_kind, cn_kind}
 use Rattle.rules.specs.Names.{ldh, domain, service, scheme}
-use Rattle.rules.specs.Records.{Reference, reference_of, filled, good_flag, good_service, good_reference, good_record}
+use Rattle.rules.specs.Records.{Reference, reference_of, filled, good_service, good_reference, good_record}
 use Rattle.rules.specs.Der.{run}
 use Rattle.rules.specs.Writing.{field, record_for, fields_hold, good_to_write}
 use Rattle.rules.proofs.Cases.{by_cases, and_left, and_right, clash}
@@ -81,19 +80,18 @@ module _ (r : Reference) (h : length r.service ≤ service_size) (k : length r.d
   unfolding record_for
   byte3 = refl
 
-  -- what the record says is what was asked for; 8/13: "4/13's writers stay", and write no 1 into byte 1
-  pub says_it : r.half ≡ false → reference_of (record_for r) ≡ r
+  -- what the record says is what was asked for
+  pub says_it : reference_of (record_for r) ≡ r
   unfolding reference_of part
-  says_it e =
-      let h : eqb (get_or (record_for r) 1 0) 1 ≡ r.half = rw byte1 (sym e) in
+  says_it =
       let s : take (get_or (record_for r) 2 0) (drop 4 (record_for r)) ≡ r.service = rw byte2 service_is_lem in
       let d : take (get_or (record_for r) 3 0) (drop 67 (record_for r)) ≡ r.domain = rw byte3 domain_is in
-      λ i. record { kind = byte0 i; half = h i; service = s i; domain = d i }
+      λ i. record { kind = byte0 i; service = s i; domain = d i }
 
   pub judged_alike : good_record (record_for r) ≡ good_reference r
-  unfolding good_record good_flag good_reference reference_of part
+  unfolding good_record part
   judged_alike =
-      rw (byte1, byte0, byte2, byte3, service_field, domain_field, field_filled service_size r.service h, field_filled domain_size r.domain k, service_is_lem, domain_is)
+      rw (byte1, byte2, byte3, service_field, domain_field, field_filled service_size r.service h, field_filled domain_size r.domain k, says_it)
 
 -- ---- the texts of a good reference fit their fields
 

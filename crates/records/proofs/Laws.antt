@@ -13,12 +13,12 @@ use Rattle.octets.proofs.Cases.{none_is, some_is}
 use Rattle.words.specs.Words.{every, zero?}
 use Rattle.names.proofs.Labels.{two_labels_lem}
 use Rattle.rules.specs.Bytes.{part, all, any}
-use Rattle.rules.specs.Numbers.{record_size, half_at, service_length_at, domain_length_at, service_at, service_size, domain_at, domain_size, records_limit}
+use Rattle.rules.specs.Numbers.{record_size, service_length_at, domain_length_at, service_at, service_size, domain_at, domain_size, records_limit}
 use Rattle.rules.specs.Names.{is, dot, service, scheme, domain}
-use Rattle.rules.specs.Records.{Reference, reference, reference_of, filled, good_flag, good_service, good_reference, good_record, split, records_of, good_records, no_record, shown}
+use Rattle.rules.specs.Records.{Reference, reference, reference_of, filled, good_service, good_reference, good_record, split, records_of, good_records, no_record, shown}
 use Rattle.rules.specs.declared.Shown.{Shown}
 use Rattle.records.specs.Small.{SmallShown}
-use Rattle.records.proofs.References.{kind_room, kind_is, half_is, half_begin, half_here, half_next, half_end, service_end, service_is_lem, domain_end, domain_is}
+use Rattle.records.proofs.References.{kind_room, kind_is, service_end, service_is_lem, domain_end, domain_is}
 use Rattle.records.proofs.Split.{count_is, record_at, shown_past, shown_at_lem, byte_at}
 
 -- ---- filled
@@ -85,50 +85,30 @@ module _ (r : Reference) (t : Bool) (t_is : t ≡ good_service r.kind r.service)
     unfolding good_reference
     reference_labels k g g_is = g_is ∙ simp (← t_is, not-false t h, ← u_is, not-false u k, two_labels_lem)
 
--- ---- good_flag
-
-module _ (kind flag : ℕ) where
-  pub flag_zero : flag ≡ 0 → true ≡ good_flag kind flag
-  unfolding good_flag
-  flag_zero e = rw e
-
-  pub flag_more : (flag ≡ 0 → ⊥) → (flag ≡ 1 → ⊥) → false ≡ good_flag kind flag
-  unfolding good_flag
-  flag_more h k = rw (ne_eqb flag 0 h, ne_eqb flag 1 k)
-
-  pub flag_dns : flag ≡ 1 → kind ≡ 1 → true ≡ good_flag kind flag
-  unfolding good_flag
-  flag_dns e f = rw (e, f)
-
-  pub flag_cn : flag ≡ 1 → (kind ≡ 1 → ⊥) → eqb kind 4 ≡ good_flag kind flag
-  unfolding good_flag
-  flag_cn e h = rw (e, ne_eqb kind 1 h)
-
 -- ---- good_record
 
 module _ (b : List ℕ) where
-  module _ (flagged : Bool) (flagged_is : flagged ≡ good_flag (get_or b 0 0) (get_or b half_at 0)) where
-    pub record_flag : not flagged ≡ true → false ≡ good_record b
-    unfolding good_record
-    record_flag h = simp (← flagged_is, not-true flagged h)
+  pub record_byte1 : (get_or b 1 0 ≡ 0 → ⊥) → false ≡ good_record b
+  unfolding good_record
+  record_byte1 h = simp (ne_eqb (get_or b 1 0) 0 h)
 
-  module _ (flagged : Bool) (flagged_is : flagged ≡ good_flag (get_or b 0 0) (get_or b half_at 0)) (good1 : not flagged ≡ false) (n : ℕ) (n_is : n ≡ get_or b service_length_at 0) (f : Bool) (f_is : f ≡ filled (take service_size (drop service_at b)) n) where
+  module _ (zero1 : get_or b 1 0 ≡ 0) (n : ℕ) (n_is : n ≡ get_or b service_length_at 0) (f : Bool) (f_is : f ≡ filled (take service_size (drop service_at b)) n) where
     pub record_service_fill : not f ≡ true → false ≡ good_record b
     unfolding good_record part
-    record_service_fill e = simp (← flagged_is, not-false flagged good1, ← n_is, ← f_is, not-true f e)
+    record_service_fill e = simp (eq-eqb (get_or b 1 0) 0 zero1, ← n_is, ← f_is, not-true f e)
 
     module _ (m : ℕ) (m_is : m ≡ get_or b domain_length_at 0) (g : Bool) (g_is : g ≡ filled (take domain_size (drop domain_at b)) m) where
       pub record_domain_fill : not f ≡ false → not g ≡ true → false ≡ good_record b
       unfolding good_record part
-      record_domain_fill d e = simp (← flagged_is, not-false flagged good1, ← n_is, ← m_is, ← f_is, not-false f d, ← g_is, not-true g e)
+      record_domain_fill d e = simp (eq-eqb (get_or b 1 0) 0 zero1, ← n_is, ← m_is, ← f_is, not-false f d, ← g_is, not-true g e)
 
       -- what is left of the judgement is that of the reference
       pub record_reference : not f ≡ false → not g ≡ false → (r : Bool)
           → r ≡ good_reference (reference (get_or b 0 0) (take (service_at + n - service_at) (drop service_at b)) (take (domain_at + m - domain_at) (drop domain_at b)))
           → r ≡ good_record b
-      unfolding good_record good_reference part reference_of
+      unfolding good_record part reference_of
       record_reference d e r r_is =
-          r_is ∙ simp (add-sub_cancel_left, ← flagged_is, not-false flagged good1, ← n_is, ← m_is, ← f_is, not-false f d, ← g_is, not-false g e)
+          r_is ∙ simp (add-sub_cancel_left, eq-eqb (get_or b 1 0) 0 zero1, ← n_is, ← m_is, ← f_is, not-false f d, ← g_is, not-false g e)
 
 -- ---- good_records
 
@@ -232,11 +212,6 @@ inside b i k h l = omega arith
 pub ruleset laws = (
   kind_room,
   kind_is,
-  half_is,
-  half_begin,
-  half_here,
-  half_next,
-  half_end,
   service_end,
   service_is_lem,
   domain_end,
@@ -251,11 +226,7 @@ pub ruleset laws = (
   reference_service,
   reference_domain,
   reference_labels,
-  flag_zero,
-  flag_more,
-  flag_dns,
-  flag_cn,
-  record_flag,
+  record_byte1,
   record_service_fill,
   record_domain_fill,
   record_reference,

@@ -8,9 +8,9 @@ ghost use Rattle.records.specs.References.{reference_at};
 
 use octets::wide;
 use rules::{
-    ACCEPTED, CN, DNS, DOMAIN_AT, DOMAIN_LENGTH_AT, DOMAIN_SIZE, HALF_AT, INPUT_TOO_LONG,
-    RECORD_SIZE, RECORDS_LIMIT, RECORDS_UNREADABLE, SERVICE_AT, SERVICE_LENGTH_AT, SERVICE_SIZE,
-    SRV, Shown, URI,
+    ACCEPTED, CN, DNS, DOMAIN_AT, DOMAIN_LENGTH_AT, DOMAIN_SIZE, INPUT_TOO_LONG, RECORD_SIZE,
+    RECORDS_LIMIT, RECORDS_UNREADABLE, SERVICE_AT, SERVICE_LENGTH_AT, SERVICE_SIZE, SRV, Shown,
+    URI,
 };
 
 // Whether a text of n bytes fits its field, "filled with zeros".
@@ -57,29 +57,12 @@ pub fn good_reference(kind: u8, service: &[u8], domain: &[u8]) -> bool
     octets::has(domain, 0x2E)
 }
 
-// "Value 1 in SRV or URI records, or a byte 1 above 1, is 6."
-fn good_flag(kind: u8, flag: u8) -> bool
-    ensures { result ≡ records.good_flag kind flag }
-{
-    if flag == 0 {
-        return true;
-    }
-    if flag != 1 {
-        return false;
-    }
-    if kind == DNS {
-        return true;
-    }
-    kind == CN
-}
-
 // Whether the 320 bytes of one record are good.
 fn good_record(b: &[u8]) -> bool
     requires { length b.now ≡ record_size }
     ensures { result ≡ records.good_record b.now }
 {
-    let flagged = good_flag(b[0], b[HALF_AT]);
-    if !flagged {
+    if b[1] != 0 {
         return false;
     }
     let service_length = wide(b[SERVICE_LENGTH_AT]);
@@ -165,30 +148,6 @@ pub fn kind_of(references: &[u8], i: usize) -> u8
     ensures { result ≡ (reference_at references.now i).kind }
 {
     references[i * RECORD_SIZE]
-}
-
-// Whether a reference accepts half labels: byte 1 is 1.
-pub fn half_of(references: &[u8], i: usize) -> bool
-    requires { i < length references.now / record_size }
-    ensures { result ≡ (reference_at references.now i).half }
-{
-    references[i * RECORD_SIZE + HALF_AT] == 1
-}
-
-// Whether any reference does.
-pub fn any_half(references: &[u8]) -> bool
-    ensures { result ≡ records.any_half (records.references_of references.now) }
-{
-    let n = references.len() / RECORD_SIZE;
-    let mut i = 0;
-    while i < n {
-        let half = half_of(references, i);
-        if half {
-            return true;
-        }
-        i += 1;
-    }
-    false
 }
 
 // "Byte 2 service length .. Bytes 4 to 66 service"

@@ -187,9 +187,10 @@ records =
     -- "a total of 0 bytes, or one not divisible by 320"
     tested (Records.good_records []) false
     ∷ tested (Records.good_records (record_bytes 1 [] 63 (text "b.c") 249)) false
-    -- "Byte 0 kind: 1 DNS, 2 SRV, 3 URI, 4 CN."
+    -- "Byte 0 kind: 1 DNS, 2 SRV, 3 URI, 4 CN. Byte 1 zero."
     ∷ tested (Records.good_records (record_bytes 0 [] 63 (text "b.c") 250)) false
     ∷ tested (Records.good_records (record_bytes 5 [] 63 (text "b.c") 250)) false
+    ∷ tested (Records.good_records (1 ∷ 1 ∷ drop 2 (record_bytes 1 [] 63 (text "b.c") 250))) false
     -- "each filled with zeros"
     ∷ tested (Records.good_records (1 ∷ 0 ∷ 0 ∷ 3 ∷ 1 ∷ drop 5 (record_bytes 1 [] 63 (text "b.c") 250))) false
     -- "Bytes .. 67 to 319 domain": 253 bytes, of which the record says that they are 254
@@ -403,7 +404,7 @@ table =
     domains ++ (services ++ (uris ++ (records ++ (general_names ++ (groups ++ (absences ++ (verdicts ++ (refusals ++ (witnesses ++ (all_numbers ++ listings))))))))))
 
 pub desk : All table
-unfolding part same begins before after ascii up_to Names.letter Names.digit Names.letter_digit_hyphen Names.lower Names.same_text Names.ldh Names.label Names.longer Names.labels Names.last_of Names.domain Names.two_labels Names.same_labels Names.same_domain Names.wildcard Names.dns_id Names.leftmost_matches Names.labels_match Names.dns_matches Names.dns_restriction Names.subtree_labels Names.dns_within Names.one_label_then Names.dns_reaches Names.service Names.service_of Names.domain_of Names.srv_id Names.srv_matches Names.restriction Names.given_service Names.given_domain Names.last_labels Names.domain_within Names.in_subtree Names.scheme_byte Names.scheme Names.scheme_of Names.authority_end Names.authority_of Names.host_and_port Names.host_of Names.port_of Names.uri_id Names.uri_matches Records.reference_of Records.filled Records.good_service Records.good_reference Records.good_record Records.split Records.records_of Records.good_records Records.references_of Der.length_bytes Der.element Der.header Der.run Der.push Der.groups Der.rows_of_members Der.rows_of_groups San.tag_of San.content_of San.write_name San.sealed San.good_value San.good_srv_name San.good_name San.name_kind San.rows_of_names Subject.write_attribute Subject.good_attribute Subject.write_set Subject.good_set Subject.numbered Subject.is_cn Subject.attribute_kind Subject.attribute_row Seen.together Seen.seen_records Matching.tagged_text Matching.srv_text Matching.entry_text Matching.sole_cn Matching.cn_text Matching.blocks_cn Matching.presented_in Matching.presented_to Matching.text_matches Matching.matches Matching.first_pair Matching.subtrees_of Matching.allowed Matching.breaks_as Matching.breaks Matching.first_broken Matching.first_breach Verdict.witness_of Verdict.judged Verdict.outcome_of Verdict.numbers_of Verdict.verdict_of Constraints.good_restriction Constraints.good_subtree Constraints.write_subtree Constraints.write_side Constraints.good_side Constraints.subtree_row Listing.listed_of Listing.table_after Records.shown_at Records.shown Verdict.witness_text Verdict.witness_place Verdict.witness_part Verdict.all_numbers Names.starts_xn Names.star_front Names.star_back Names.half_label Names.half_id Names.half_accepts Names.half_matches Names.dns_matches_by Names.dns_id_by Names.dns_reaches_by Records.good_flag Records.any_half
+unfolding part same begins before after ascii up_to Names.letter Names.digit Names.letter_digit_hyphen Names.lower Names.same_text Names.ldh Names.label Names.longer Names.labels Names.last_of Names.domain Names.two_labels Names.same_labels Names.same_domain Names.wildcard Names.dns_id Names.leftmost_matches Names.labels_match Names.dns_matches Names.dns_restriction Names.subtree_labels Names.dns_within Names.one_label_then Names.dns_reaches Names.service Names.service_of Names.domain_of Names.srv_id Names.srv_matches Names.restriction Names.given_service Names.given_domain Names.last_labels Names.domain_within Names.in_subtree Names.scheme_byte Names.scheme Names.scheme_of Names.authority_end Names.authority_of Names.host_and_port Names.host_of Names.port_of Names.uri_id Names.uri_matches Records.reference_of Records.filled Records.good_service Records.good_reference Records.good_record Records.split Records.records_of Records.good_records Records.references_of Der.length_bytes Der.element Der.header Der.run Der.push Der.groups Der.rows_of_members Der.rows_of_groups San.tag_of San.content_of San.write_name San.sealed San.good_value San.good_srv_name San.good_name San.name_kind San.rows_of_names Subject.write_attribute Subject.good_attribute Subject.write_set Subject.good_set Subject.numbered Subject.is_cn Subject.attribute_kind Subject.attribute_row Seen.together Seen.seen_records Matching.tagged_text Matching.srv_text Matching.entry_text Matching.sole_cn Matching.cn_text Matching.blocks_cn Matching.presented_in Matching.presented_to Matching.text_matches Matching.matches Matching.first_pair Matching.subtrees_of Matching.allowed Matching.breaks_as Matching.breaks Matching.first_broken Matching.first_breach Verdict.witness_of Verdict.judged Verdict.outcome_of Verdict.numbers_of Verdict.verdict_of Constraints.good_restriction Constraints.good_subtree Constraints.write_subtree Constraints.write_side Constraints.good_side Constraints.subtree_row Listing.listed_of Listing.table_after Records.shown_at Records.shown Verdict.witness_text Verdict.witness_place Verdict.witness_part Verdict.all_numbers
 desk = all_hold table tt
 
 -- ---- 3/13: the viewer

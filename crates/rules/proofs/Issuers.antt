@@ -181,5 +181,5 @@ strings =
     ∷ []
 
 pub issuers : All (chains ++ (subtrees ++ (restrictions ++ strings)))
-unfolding part same begins before after ascii up_to Names.letter Names.digit Names.letter_digit_hyphen Names.lower Names.same_text Names.ldh Names.label Names.longer Names.labels Names.last_of Names.domain Names.two_labels Names.same_labels Names.same_domain Names.wildcard Names.dns_id Names.leftmost_matches Names.labels_match Names.dns_matches Names.dns_restriction Names.subtree_labels Names.dns_within Names.one_label_then Names.dns_reaches Names.service Names.service_of Names.domain_of Names.srv_id Names.restriction Names.given_service Names.given_domain Names.last_labels Names.domain_within Names.in_subtree Names.scheme_byte Names.scheme Names.scheme_of Names.authority_end Names.authority_of Names.host_and_port Names.host_of Names.port_of Names.uri_id Names.uri_matches Records.reference_of Records.filled Records.good_service Records.good_reference Records.good_record Records.split Records.records_of Records.good_records Records.references_of Der.length_bytes Der.element Der.header Der.run Der.push Der.groups Der.rows_of_members Der.rows_of_groups San.tag_of San.content_of San.write_name San.sealed San.good_value San.good_srv_name San.good_name San.name_kind San.rows_of_names Subject.write_attribute Subject.good_attribute Subject.write_set Subject.good_set Subject.numbered Subject.is_cn Subject.attribute_kind Subject.attribute_row Constraints.good_restriction Constraints.good_subtree Constraints.write_subtree Constraints.write_side Constraints.good_side sum Seen.lengths_fit cut Seen.strings_of Seen.lengths_from_c Seen.strings_by Seen.together Seen.seen_records Matching.tagged_text Matching.srv_text Matching.entry_text Matching.sole_cn Matching.cn_text Matching.blocks_cn Matching.presented_in Matching.presented_to Matching.text_matches Matching.matches Matching.first_pair Matching.subtrees_of Matching.allowed Matching.breaks_as Matching.breaks Matching.first_broken Matching.first_breach Verdict.witness_of Verdict.judged Verdict.outcome_of Verdict.numbers_of Verdict.verdict_of Names.starts_xn Names.star_front Names.star_back Names.half_label Names.half_id Names.half_accepts Names.half_matches Names.dns_matches_by Names.dns_id_by Names.dns_reaches_by Records.good_flag Records.any_half
+unfolding part same begins before after ascii up_to Names.letter Names.digit Names.letter_digit_hyphen Names.lower Names.same_text Names.ldh Names.label Names.longer Names.labels Names.last_of Names.domain Names.two_labels Names.same_labels Names.same_domain Names.wildcard Names.dns_id Names.leftmost_matches Names.labels_match Names.dns_matches Names.dns_restriction Names.subtree_labels Names.dns_within Names.one_label_then Names.dns_reaches Names.service Names.service_of Names.domain_of Names.srv_id Names.restriction Names.given_service Names.given_domain Names.last_labels Names.domain_within Names.in_subtree Names.scheme_byte Names.scheme Names.scheme_of Names.authority_end Names.authority_of Names.host_and_port Names.host_of Names.port_of Names.uri_id Names.uri_matches Records.reference_of Records.filled Records.good_service Records.good_reference Records.good_record Records.split Records.records_of Records.good_records Records.references_of Der.length_bytes Der.element Der.header Der.run Der.push Der.groups Der.rows_of_members Der.rows_of_groups San.tag_of San.content_of San.write_name San.sealed San.good_value San.good_srv_name San.good_name San.name_kind San.rows_of_names Subject.write_attribute Subject.good_attribute Subject.write_set Subject.good_set Subject.numbered Subject.is_cn Subject.attribute_kind Subject.attribute_row Constraints.good_restriction Constraints.good_subtree Constraints.write_subtree Constraints.write_side Constraints.good_side sum Seen.lengths_fit cut Seen.strings_of Seen.lengths_from_c Seen.strings_by Seen.together Seen.seen_records Matching.tagged_text Matching.srv_text Matching.entry_text Matching.sole_cn Matching.cn_text Matching.blocks_cn Matching.presented_in Matching.presented_to Matching.text_matches Matching.matches Matching.first_pair Matching.subtrees_of Matching.allowed Matching.breaks_as Matching.breaks Matching.first_broken Matching.first_breach Verdict.witness_of Verdict.judged Verdict.outcome_of Verdict.numbers_of Verdict.verdict_of
 issuers = all_hold (chains ++ (subtrees ++ (restrictions ++ strings))) tt

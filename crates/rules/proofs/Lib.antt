@@ -8,7 +8,6 @@ pub mod Certificates
 pub mod Desk
 pub mod Writers
 pub mod Issuers
-pub mod Halves
 -- The names of document 01 as it writes them: parts joined to a text. `Joined` states them, the rest is their proof.
 pub mod Cases
 pub mod Cut
@@ -20,6 +19,4 @@ pub mod JoinedNames
 pub mod JoinedUri
 -- What a wildcard that breaks no excluded dNSName subtree cannot match: `kept_out`.
 pub mod SameLabels
-pub mod HalfLabels
 pub mod KeptOut
-pub mod HalfKeptOut

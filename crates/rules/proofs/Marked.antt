@@ -65,5 +65,5 @@ table =
     ∷ []
 
 pub marked : All table
-unfolding part same begins before after ascii up_to Names.letter Names.digit Names.letter_digit_hyphen Names.lower Names.same_text Names.ldh Names.label Names.longer Names.labels Names.last_of Names.domain Names.two_labels Names.same_labels Names.same_domain Names.wildcard Names.dns_id Names.leftmost_matches Names.labels_match Names.dns_matches Names.starts_xn Names.star_front Names.star_back Names.half_label Names.half_id Names.half_accepts Names.one_label_then Names.half_matches Names.dns_matches_by Names.service Names.service_of Names.domain_of Names.srv_id Names.restriction Names.given_service Names.given_domain Names.last_labels Names.domain_within Names.in_subtree Records.reference_of Records.filled Records.good_service Records.good_reference Records.good_flag Records.good_record Records.split Records.records_of Records.good_records Records.references_of Records.any_half Der.length_bytes Der.element Der.header Der.run Der.push Der.groups Der.rows_of_members Der.rows_of_groups San.tag_of San.content_of San.write_name San.sealed San.good_value San.good_srv_name San.good_name San.name_kind San.rows_of_names Subject.write_attribute Subject.good_attribute Subject.write_set Subject.good_set Subject.numbered Subject.is_cn Subject.attribute_kind Subject.attribute_row Seen.together Seen.seen_records Matching.tagged_text Matching.srv_text Matching.entry_text Matching.sole_cn Matching.cn_text Matching.blocks_cn Matching.presented_in Matching.presented_to Matching.text_matches Matching.matches Matching.first_pair Matching.first_breach Verdict.witness_of Verdict.judged Verdict.outcome_of Verdict.numbers_of Verdict.verdict_of
+unfolding part same begins before after ascii up_to Names.letter Names.digit Names.letter_digit_hyphen Names.lower Names.same_text Names.ldh Names.label Names.longer Names.labels Names.last_of Names.domain Names.two_labels Names.same_labels Names.same_domain Names.wildcard Names.dns_id Names.leftmost_matches Names.labels_match Names.dns_matches Names.service Names.service_of Names.domain_of Names.srv_id Names.restriction Names.given_service Names.given_domain Names.last_labels Names.domain_within Names.in_subtree Records.reference_of Records.filled Records.good_service Records.good_reference Records.good_record Records.split Records.records_of Records.good_records Records.references_of Der.length_bytes Der.element Der.header Der.run Der.push Der.groups Der.rows_of_members Der.rows_of_groups San.tag_of San.content_of San.write_name San.sealed San.good_value San.good_srv_name San.good_name San.name_kind San.rows_of_names Subject.write_attribute Subject.good_attribute Subject.write_set Subject.good_set Subject.numbered Subject.is_cn Subject.attribute_kind Subject.attribute_row Seen.together Seen.seen_records Matching.tagged_text Matching.srv_text Matching.entry_text Matching.sole_cn Matching.cn_text Matching.blocks_cn Matching.presented_in Matching.presented_to Matching.text_matches Matching.matches Matching.first_pair Matching.first_breach Verdict.witness_of Verdict.judged Verdict.outcome_of Verdict.numbers_of Verdict.verdict_of
 marked = all_hold table tt

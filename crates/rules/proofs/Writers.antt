@@ -129,5 +129,5 @@ unfolding same begins before after ascii Names.letter Names.digit Names.letter_d
 san_values_lem = all_hold san_values tt
 
 pub record_values_lem : All record_values
-unfolding same part Names.letter Names.digit Names.letter_digit_hyphen Names.ldh Names.label Names.longer Names.labels Names.last_of Names.domain Names.two_labels Names.service Names.scheme_byte Names.scheme Records.reference_of Records.filled Records.good_service Records.good_reference Records.good_flag Records.good_record Der.run cut sum Writing.agree Writing.asked Writing.good_list Writing.result_of Writing.fitted Writing.written_by Writing.buffer_by Writing.references Writing.field Writing.record_for Writing.fields_hold Writing.good_to_write
+unfolding same part Names.letter Names.digit Names.letter_digit_hyphen Names.ldh Names.label Names.longer Names.labels Names.last_of Names.domain Names.two_labels Names.service Names.scheme_byte Names.scheme Records.reference_of Records.filled Records.good_service Records.good_reference Records.good_record Der.run cut sum Writing.agree Writing.asked Writing.good_list Writing.result_of Writing.fitted Writing.written_by Writing.buffer_by Writing.references Writing.field Writing.record_for Writing.fields_hold Writing.good_to_write
 record_values_lem = all_hold record_values tt

@@ -4,7 +4,7 @@ use Rattle.std.specs.Prelude.{ℕ, suc, Bool, false, cond, not, ◌&&◌, ◌||�
 use Rattle.std.proofs.Math.Option.{Option, none, some}
 use Rattle.rules.specs.Bytes.{some?, any, count, find, same}
 use Rattle.rules.specs.Numbers.{dns_kind, srv_kind, uri_kind, cn_kind}
-use Rattle.rules.specs.Names.{dns_matches_by, dns_id_by, dns_within, dns_reaches_by, srv_id, srv_matches, uri_matches, in_subtree}
+use Rattle.rules.specs.Names.{dns_matches, dns_id, dns_within, dns_reaches, srv_id, srv_matches, uri_matches, in_subtree}
 use Rattle.rules.specs.Records.{Reference}
 use Rattle.rules.specs.Der.{Member}
 use Rattle.rules.specs.San.{GeneralName, plain, other, srv_oid, san_grammar}
@@ -72,7 +72,7 @@ presented_to kind san subject =
 
 unfoldable pub text_matches : Reference → List ℕ → Bool
 text_matches r text =
-    cond (eqb r.kind dns_kind || eqb r.kind cn_kind) (dns_matches_by r.half r.domain text)
+    cond (eqb r.kind dns_kind || eqb r.kind cn_kind) (dns_matches r.domain text)
     (cond (eqb r.kind srv_kind) (srv_matches r.service r.domain text)
     (cond (eqb r.kind uri_kind) (uri_matches r.service r.domain text) false))
 
@@ -117,23 +117,22 @@ pub record Form : Type 0 where
 abbrev pub srv_form : Form
 srv_form = record { text = srv_text; id = srv_id; inside = in_subtree; reaches = in_subtree }
 
--- 6/13: "Add dNSName subtrees .., permitted and excluded as for SRVNames". 8/13: whether half labels count is a parameter of what follows,
--- "if any record has 1"
-abbrev pub dns_form : Bool → Form
-dns_form half = record { text = tagged_text 0x82; id = dns_id_by half; inside = dns_within; reaches = dns_reaches_by half }
+-- 6/13: "Add dNSName subtrees .., permitted and excluded as for SRVNames"
+abbrev pub dns_form : Form
+dns_form = record { text = tagged_text 0x82; id = dns_id; inside = dns_within; reaches = dns_reaches }
 
 -- the texts of the subtrees of a form on a side. "Other forms in the constraints are read and passed over."
-unfoldable pub subtrees_of : (GeneralName → Option (List ℕ)) → ℕ → List (Member GeneralName) → List (List ℕ)
-subtrees_of text side [] = []
-subtrees_of text side (m ∷ l) = with_some (cond (eqb m.group side) (text m.value) none) (subtrees_of text side l)
+unfoldable pub subtrees_of : Form → ℕ → List (Member GeneralName) → List (List ℕ)
+subtrees_of form side [] = []
+subtrees_of form side (m ∷ l) = with_some (cond (eqb m.group side) (form.text m.value) none) (subtrees_of form side l)
 
 -- "if the constraints hold any SRVName subtree, each presented SRVName must be an SRV-ID, lie in no excluded SRVName
 -- subtree, and, if any permitted SRVName subtree exists, lie in one". 2/13: "no SRV-ID, so 2 where SRVName subtrees exist". 6/13, the
 -- same of dNSNames: "With any dNSName subtree in a string, a dNSName that is no DNS-ID breaks it."
 unfoldable pub allowed : Form → List (Member GeneralName) → List ℕ → Bool
 allowed form constraints text =
-    let inside = subtrees_of form.text permitted constraints in
-    let outside = subtrees_of form.text excluded constraints in
+    let inside = subtrees_of form permitted constraints in
+    let outside = subtrees_of form excluded constraints in
     (not (some? inside) && not (some? outside))
     || (form.id text && not (any (λ s. form.reaches s text) outside)
     && (not (some? inside) || any (λ s. form.inside s text) inside))
@@ -142,19 +141,19 @@ allowed form constraints text =
 unfoldable pub breaks_as : Form → List (Member GeneralName) → GeneralName → Bool
 breaks_as form constraints n = if_some (form.text n) (λ text. not (allowed form constraints text))
 
-unfoldable pub breaks : Bool → List (Member GeneralName) → GeneralName → Bool
-breaks half constraints n = breaks_as srv_form constraints n || breaks_as (dns_form half) constraints n
+unfoldable pub breaks : List (Member GeneralName) → GeneralName → Bool
+breaks constraints n = breaks_as srv_form constraints n || breaks_as dns_form constraints n
 
 -- the index of the first entry that breaks a string; the entries count from i
-unfoldable pub first_broken : Bool → ℕ → List (Member GeneralName) → List GeneralName → Option ℕ
-first_broken half i constraints [] = none
-first_broken half i constraints (n ∷ l) = cond (breaks half constraints n) (some i) (first_broken half (suc i) constraints l)
+unfoldable pub first_broken : ℕ → List (Member GeneralName) → List GeneralName → Option ℕ
+first_broken i constraints [] = none
+first_broken i constraints (n ∷ l) = cond (breaks constraints n) (some i) (first_broken (suc i) constraints l)
 
 abbrev pub breach_or : ℕ → Option ℕ → Option Breach → Option Breach
 breach_or i none next = next
 breach_or i (some j) next = some (record { issuer = i; presented = j })
 
 -- 6/13: "All of them must hold." "lowest issuer first, then lowest name": the issuers count from i
-unfoldable pub first_breach : Bool → ℕ → List (List (Member GeneralName)) → List GeneralName → Option Breach
-first_breach half i [] san = none
-first_breach half i (c ∷ cs) san = breach_or i (first_broken half 0 c san) (first_breach half (suc i) cs san)
+unfoldable pub first_breach : ℕ → List (List (Member GeneralName)) → List GeneralName → Option Breach
+first_breach i [] san = none
+first_breach i (c ∷ cs) san = breach_or i (first_broken 0 c san) (first_breach (suc i) cs san)

@@ -1,6 +1,6 @@
 -- Names: what is a domain, a service, a scheme; DNS-ID, SRV-ID and URI-ID, and what each matches; the texts of SRVName
 -- restrictions, and lying in a subtree. Document 01, "Names", sentence by sentence, as document 02 changes them.
-use Rattle.std.specs.Prelude.{ℕ, ◌+◌, ◌-◌, Bool, true, false, cond, not, ◌&&◌, ◌||◌, List, [], ◌∷◌, length, get_or, take, drop, leb, eqb}
+use Rattle.std.specs.Prelude.{ℕ, ◌+◌, ◌-◌, Bool, true, false, cond, not, ◌&&◌, ◌||◌, List, [], ◌∷◌, length, get_or, drop, leb, eqb}
 use Rattle.std.proofs.Math.Option.{Option, none, some}
 use Rattle.rules.specs.Bytes.{some?, all, any, same, begins, before, after}
 
@@ -158,56 +158,6 @@ one_label_then text subtree = same_labels (labels text) (drop 1 (labels subtree)
 -- 6/13: "A wildcard name lies in a subtree if .. It also breaks an excluded subtree made of one label and then the text after `*.`"
 unfoldable pub dns_reaches : List ℕ → List ℕ → Bool
 dns_reaches subtree name = dns_within subtree name || (wildcard name && one_label_then (drop 2 name) subtree)
-
--- ---- half labels
-
--- 8/13: "begin with xn--, in either case"
-unfoldable pub starts_xn : List ℕ → Bool
-starts_xn l = same_text (take 4 l) (0x78 ∷ 0x6E ∷ hyphen ∷ hyphen ∷ [])
-
--- of a label with a star: what stands before its first star, and what stands after that
-unfoldable pub star_front : List ℕ → List ℕ
-star_front l = before (is star) l
-
-unfoldable pub star_back : List ℕ → List ℕ
-star_back l = after (is star) l
-
--- 8/13: "a single star among other characters", "Take the star away and what is left must be letters, digits and hyphens; the whole
--- label is at most 63 bytes, and doesn't begin or end with a hyphen. This label may not begin with xn--"
-unfoldable pub half_label : List ℕ → Bool
-half_label l =
-    any (is star) l && leb 2 (length l) && all letter_digit_hyphen (star_front l) && all letter_digit_hyphen (star_back l)
-    && leb (length l) 63 && not (eqb (get_or l 0 0) hyphen) && not (eqb (get_or l (length l - 1) 0) hyphen) && not (starts_xn l)
-
--- 8/13: "A domain of at least two labels must follow it, and the name has at most 253 bytes"
-unfoldable pub half_id : List ℕ → Bool
-half_id s = leb (length s) 253 && half_label (before (is dot) s) && domain (after (is dot) s) && two_labels (after (is dot) s)
-
--- 8/13: "the star standing for one or more bytes", "a reference whose first label does [begin with xn--] isn't matched this way"
-unfoldable pub half_accepts : List ℕ → List ℕ → Bool
-half_accepts half l =
-    any (is star) half && leb (length half) (length l) && not (starts_xn l)
-    && same_text (star_front half) (take (length (star_front half)) l)
-    && same_text (star_back half) (drop (length l - length (star_back half)) l)
-
--- a half-label name matches a domain: its first label accepts the domain's, and the others are the same
-unfoldable pub half_matches : List ℕ → List ℕ → Bool
-half_matches reference text =
-    half_id text && half_accepts (before (is dot) text) (before (is dot) reference) && one_label_then (after (is dot) text) reference
-
--- ---- DNS-IDs, with half labels where they count
-
--- 8/13: "a half-label name counts there as a DNS-ID"
-unfoldable pub dns_id_by : Bool → List ℕ → Bool
-dns_id_by half s = (half && half_id s) || dns_id s
-
--- 8/13: "With 1, a DNS or CN reference also accepts a leftmost label with a single star among other characters"
-unfoldable pub dns_matches_by : Bool → List ℕ → List ℕ → Bool
-dns_matches_by half reference text = (half && half_matches reference text) || dns_matches reference text
-
--- 8/13: "breaks an excluded one if any domain it matches lies there": the name lies there itself, or matches the subtree's own text
-unfoldable pub dns_reaches_by : Bool → List ℕ → List ℕ → Bool
-dns_reaches_by half subtree name = (half && half_matches subtree name) || dns_reaches subtree name
 
 -- ---- SRV-ID
 

@@ -71,9 +71,6 @@ abbrev pub record_size : ℕ
 record_size = 320
 
 -- "Byte 2 service length, byte 3 domain length. Bytes 4 to 66 service, 67 to 319 domain"
-abbrev pub half_at : ℕ
-half_at = 1
-
 abbrev pub service_length_at : ℕ
 service_length_at = 2
 

@@ -1,29 +1,23 @@
 -- Reference records: which bytes are good, and what they say. Document 01, "Reference records", as document 02 changes it.
 use Rattle.std.specs.Prelude.{ℕ, zero, suc, ◌/◌, ◌%◌, Bool, false, cond, ◌&&◌, ◌||◌, List, [], ◌∷◌, map, length, get_or, take, drop, leb, ltb, eqb}
-use Rattle.rules.specs.Bytes.{part, some?, all, any}
-use Rattle.rules.specs.Numbers.{dns_kind, srv_kind, uri_kind, cn_kind, record_size, half_at, service_length_at, domain_length_at, service_at, service_size, domain_at, domain_size, records_limit, accepted, records_unreadable, input_too_long}
+use Rattle.rules.specs.Bytes.{part, some?, all}
+use Rattle.rules.specs.Numbers.{dns_kind, srv_kind, uri_kind, cn_kind, record_size, service_length_at, domain_length_at, service_at, service_size, domain_at, domain_size, records_limit, accepted, records_unreadable, input_too_long}
 use Rattle.rules.specs.Names.{domain, two_labels, service, scheme}
 use Rattle.rules.specs.declared.Shown.{Shown}
 
 -- what a record says; the service of a URI reference is its scheme
 pub record Reference : Type 0 where
   pub kind : ℕ
-  pub half : Bool
   pub service : List ℕ
   pub domain : List ℕ
 
-abbrev pub reference_by : Bool → ℕ → List ℕ → List ℕ → Reference
-reference_by half kind service domain = record { kind = kind; half = half; service = service; domain = domain }
-
 abbrev pub reference : ℕ → List ℕ → List ℕ → Reference
-reference = reference_by false
+reference kind service domain = record { kind = kind; service = service; domain = domain }
 
--- "Byte 0 kind .. Byte 2 service length, byte 3 domain length. Bytes 4 to 66 service, 67 to 319 domain". 8/13: "Byte 1 of a record may
--- now be 0 or 1"
+-- "Byte 0 kind .. Byte 2 service length, byte 3 domain length. Bytes 4 to 66 service, 67 to 319 domain"
 unfoldable pub reference_of : List ℕ → Reference
 reference_of b = record {
   kind = get_or b 0 0;
-  half = eqb (get_or b half_at 0) 1;
   service = part b service_at (get_or b service_length_at 0);
   domain = part b domain_at (get_or b domain_length_at 0);
 }
@@ -43,13 +37,10 @@ good_service kind s =
 unfoldable pub good_reference : Reference → Bool
 good_reference r = good_service r.kind r.service && domain r.domain && two_labels r.domain
 
--- 8/13: "Value 1 in SRV or URI records, or a byte 1 above 1, is 6"
-unfoldable pub good_flag : ℕ → ℕ → Bool
-good_flag kind flag = eqb flag 0 || (eqb flag 1 && (eqb kind dns_kind || eqb kind cn_kind))
-
+-- "Byte 1 zero."
 unfoldable pub good_record : List ℕ → Bool
 good_record b =
-    good_flag (get_or b 0 0) (get_or b half_at 0)
+    eqb (get_or b 1 0) 0
     && filled (part b service_at service_size) (get_or b service_length_at 0)
     && filled (part b domain_at domain_size) (get_or b domain_length_at 0)
     && good_reference (reference_of b)
@@ -68,10 +59,6 @@ good_records b = some? b && eqb (length b % record_size) 0 && all good_record (r
 
 unfoldable pub references_of : List ℕ → List Reference
 references_of b = map reference_of (records_of b)
-
--- 8/13: "if any record has 1"
-unfoldable pub any_half : List Reference → Bool
-any_half references = any (λ r. r.half) references
 
 -- ---- the record reader
 

@@ -3,7 +3,7 @@ use Rattle.std.specs.Prelude.{ℕ, ◌+◌, ◌-◌, Bool, true, false, cond, �
 use Rattle.std.proofs.Math.Option.{Option, none, some, get_or}
 use Rattle.rules.specs.Bytes.{part}
 use Rattle.rules.specs.Numbers.{match, mismatch, constraints_broken, san_unreadable, subject_unreadable, constraints_unreadable, records_unreadable, input_too_long, cn_kind}
-use Rattle.rules.specs.Records.{Reference, any_half}
+use Rattle.rules.specs.Records.{Reference}
 use Rattle.rules.specs.Der.{Member}
 use Rattle.rules.specs.San.{GeneralName}
 use Rattle.rules.specs.Subject.{Attribute}
@@ -65,7 +65,7 @@ broken_or (some b) o = Broken b
 -- all four inputs are read: the constraints first, "even if another name would match", then the first pair
 unfoldable pub judged : List Reference → List GeneralName → List (Member Attribute) → List (List (Member GeneralName)) → Outcome
 judged references san subject constraints =
-    broken_or (first_breach (any_half references) 0 constraints san) (matched_or (first_pair 0 references san subject))
+    broken_or (first_breach 0 constraints san) (matched_or (first_pair 0 references san subject))
 
 -- "Order for a verdict: 7 for any of the four inputs, then 6, 3, 4, 5, 2, then 0 or 1." The constraints are those of all issuers
 unfoldable pub outcome_of : Seen Reference → Seen GeneralName → Seen (Member Attribute) → Seen (List (Member GeneralName)) → Outcome

@@ -44,11 +44,8 @@ pub const RECORDS_LIMIT: usize = 5120;
 // The most issuers whose constraints are handed over.
 pub const MOST_ISSUERS: usize = 8;
 
-// The size of a reference record; where its byte for half labels, its lengths, its service and its domain stand, and how long the two
-// fields are.
+// The size of a reference record; where its lengths, its service and its domain stand, and how long the two fields are.
 pub const RECORD_SIZE: usize = 320;
-
-pub const HALF_AT: usize = 1;
 
 pub const SERVICE_LENGTH_AT: usize = 2;
 

@@ -39,9 +39,9 @@ fn srv_within(subtree: &[u8], name: &[u8]) -> bool {
 
 // Whether a DNS-ID breaks the subtree where it is excluded; a text that is none does not.
 fn dns_breaks(subtree: &[u8], name: &[u8]) -> bool {
-    let id = dns::dns_id_by(false, name);
+    let id = dns::dns_id(name);
     if id {
-        return dns::dns_reaches(false, subtree, name);
+        return dns::dns_reaches(subtree, name);
     }
     false
 }

@@ -13,7 +13,7 @@ use lib.Dec.{ltb}
 use borrow.Author.Tests.{lt-ltb, le-ltb, not-true, not-false}
 use Rattle.rules.specs.Bytes.{part, some?, all, any}
 use Rattle.rules.specs.Numbers.{san_limit, subject_limit, constraints_limit, records_limit}
-use Rattle.rules.specs.Records.{good_records, references_of, any_half}
+use Rattle.rules.specs.Records.{good_records, references_of}
 use Rattle.rules.specs.Seen.{lengths_fit}
 use Rattle.rules.specs.Matching.{Pair, first_pair, first_breach}
 use Rattle.rules.specs.Verdict.{past, witness_part, witness_text, witness_place, witness_of, matched_or, broken_or, judged, numbers, numbers_of}
@@ -255,11 +255,8 @@ module _ (R S J C L : List ℕ) (n : ℕ) (n_is : n ≡ first_refusal R S J C L)
     unfolding subject_read
     asks_subject = runs.read_valid read_subject J read.subject
 
-    module _ (half : Bool) (half_is : half ≡ any_half (references_of R)) (b : breached.Breached)
-        (b_by : b ≡ breach_of (first_breach half 0 (map (names_of read_constraints) (strings_in L C)) (names_of read_san S))) where
-      b_is : b ≡ breach_of (first_breach (any_half (references_of R)) 0 (map (names_of read_constraints) (strings_in L C)) (names_of read_san S))
-      b_is = rw half_is at b_by
-
+    module _ (b : breached.Breached)
+        (b_is : b ≡ breach_of (first_breach 0 (map (names_of read_constraints) (strings_in L C)) (names_of read_san S))) where
       judged_broken : (o : Option Breach) (x : Outcome) (i : Breach) → breach_of o ≡ At i → broken_or o x ≡ Broken i
       unfolding breach_of
       judged_broken none x i e = let z : ◌≡◌ {A = ℕ} 0 1 = cc in absurd (omega arith)

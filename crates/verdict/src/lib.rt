@@ -11,7 +11,7 @@ ghost use Rattle.verdict.specs.Judging.{constraints_long, any_long, subject_read
 use constrained::{Breached, first_breach};
 use issuers::{lengths_fit, string_of};
 use pairs::first_pair;
-use records::{any_half, good_records};
+use records::good_records;
 use rules::{
     CONSTRAINTS_BROKEN, CONSTRAINTS_LIMIT, CONSTRAINTS_UNREADABLE, INPUT_TOO_LONG, MATCH, MISMATCH,
     Outcome, Place, RECORDS_LIMIT, RECORDS_UNREADABLE, SAN_LIMIT, SAN_UNREADABLE, SUBJECT_LIMIT,
@@ -165,8 +165,7 @@ pub fn outcome(
     if n != 0 {
         return Outcome::Refused(n);
     }
-    let half = any_half(references);
-    let b = first_breach(san, constraints, lengths, half);
+    let b = first_breach(san, constraints, lengths);
     match b {
         Breached::At(breach) => Outcome::Broken(breach),
         Breached::Nothing => first_pair(references, san, subject),

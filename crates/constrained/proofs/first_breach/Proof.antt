@@ -7,10 +7,10 @@ use Rattle.constrained.proofs.first_breach.Statement.{statement}
 use Rattle.constrained.proofs.first_breach.Tie as tie
 
 abbrev invariant-loop : tie.invariant-loop
-invariant-loop san constraints lengths half fit k₀ k = (k ≤ length lengths) × BreachLeft half san lengths constraints k
+invariant-loop san constraints lengths fit k₀ k = (k ≤ length lengths) × BreachLeft san lengths constraints k
 
 abbrev decreases-loop : tie.decreases-loop
-decreases-loop san constraints lengths half fit k₀ k = length lengths - k
+decreases-loop san constraints lengths fit k₀ k = length lengths - k
 
 returns_2 : tie.Need-returns-2 invariant-loop decreases-loop
 returns_2 c =

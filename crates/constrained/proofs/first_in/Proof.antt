@@ -10,11 +10,11 @@ use Rattle.constrained.proofs.first_in.Statement.{statement}
 use Rattle.constrained.proofs.first_in.Tie as tie
 
 abbrev invariant-loop : tie.invariant-loop
-invariant-loop san start end constraints srv dns half at₀ i₀ at i =
-    (i ≤ at) × Run read_name san at end × BrokenLeft half (names_of read_constraints constraints) san start end at i
+invariant-loop san start end constraints srv dns at₀ i₀ at i =
+    (i ≤ at) × Run read_name san at end × BrokenLeft (names_of read_constraints constraints) san start end at i
 
 abbrev decreases-loop : tie.decreases-loop
-decreases-loop san start end constraints srv dns half at₀ i₀ at i = end - at
+decreases-loop san start end constraints srv dns at₀ i₀ at i = end - at
 
 breaks_requires : tie.Need-breaks-requires invariant-loop decreases-loop
 breaks_requires c κs = (search (rules, steps, names, laws), (search (rules, steps, names, laws), (search (rules, steps, names, laws), (search (rules, steps, names, laws), search (rules, steps, names, laws)))))

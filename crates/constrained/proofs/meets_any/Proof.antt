@@ -9,10 +9,10 @@ use Rattle.constrained.proofs.meets_any.Statement.{statement}
 use Rattle.constrained.proofs.meets_any.Tie as tie
 
 abbrev invariant-loop : tie.invariant-loop
-invariant-loop s start end half kind excluded name first at₀ at = Run read_subtree s at end × MeetsLeft half kind excluded s start end name at
+invariant-loop s start end kind excluded name first at₀ at = Run read_subtree s at end × MeetsLeft kind excluded s start end name at
 
 abbrev decreases-loop : tie.decreases-loop
-decreases-loop s start end half kind excluded name first at₀ at = end - at
+decreases-loop s start end kind excluded name first at₀ at = end - at
 
 subtree_meets_requires : tie.Need-subtree-meets-requires invariant-loop decreases-loop
 subtree_meets_requires c κs = (search (rules, steps, names, laws), (search (rules, steps, names, laws), (search (rules, steps, names, laws), (search (rules, steps, names, laws), search (rules, steps, names, laws)))))

@@ -1,7 +1,7 @@
 use Prim.Native.Nat.{◌-◌}
 use Rattle.reading.specs.Strings.{read_subtree}
 use Rattle.der.specs.Runs.{Run}
-use Rattle.entries.specs.Entries.{form_text}
+use Rattle.entries.specs.Entries.{form_of}
 use Rattle.constrained.proofs.Parts.{SameTexts}
 use borrow.Author.Rules.{rules}
 use Rattle.constrained.proofs.Parts.{laws}
@@ -10,7 +10,7 @@ use Rattle.constrained.proofs.narrow.Statement.{statement}
 use Rattle.constrained.proofs.narrow.Tie as tie
 
 abbrev invariant-loop : tie.invariant-loop
-invariant-loop s start end kind at₀ at = Run read_subtree s at end × SameTexts (form_text kind) s start end at
+invariant-loop s start end kind at₀ at = Run read_subtree s at end × SameTexts (form_of kind) s start end at
 
 abbrev decreases-loop : tie.decreases-loop
 decreases-loop s start end kind at₀ at = end - at

@@ -15,7 +15,4 @@ dns_reaches_spec =
     (λ c. search rules)
     (λ c κs. search rules)
     (λ c. search (rules, laws))
-    (λ c κs. search rules)
-    (λ c κs. search rules)
-    (λ c. search (rules, laws))
     (λ c. search (rules, laws)))

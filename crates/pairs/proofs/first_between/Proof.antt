@@ -1,7 +1,6 @@
 use mathlib.Core.Logic.{⊎_elim}
 use Prim.Native.Nat.{◌-◌}
 use mathlib.Core.Path.{◌≡◌}
-use mathlib.Core.Bool.{false}
 use Rattle.reading.specs.Strings.{read_name}
 use Rattle.entries.proofs.Steps.{step_found, step_room, step_counts, steps, names}
 use Rattle.pairs.specs.declared.Held.TheVariants.{Nothing}
@@ -12,7 +11,7 @@ use Rattle.pairs.proofs.first_between.Tie as tie
 
 abbrev invariant-loop : tie.invariant-loop
 invariant-loop references from to san subject table start found₀ i kind service domain first end at₀ j₀ found at j =
-    (found ≡ Nothing) × Names references san subject from to i false kind service domain end at j
+    (found ≡ Nothing) × Names references san subject from to i kind service domain end at j
 
 abbrev decreases-loop : tie.decreases-loop
 decreases-loop references from to san subject table start found₀ i kind service domain first end at₀ j₀ found at j = end - at

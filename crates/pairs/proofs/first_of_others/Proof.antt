@@ -1,5 +1,5 @@
 use borrow.Author.Rules.{rules}
-use Rattle.pairs.proofs.Search.{others_none, all_few, others_are, none_whole, held_fits, filters_all}
+use Rattle.pairs.proofs.Search.{others_none, others_few, others_are, held_fits, filters_all}
 use Rattle.pairs.proofs.first_of_others.Statement.{statement}
 use Rattle.pairs.proofs.first_of_others.Tie as tie
 
@@ -8,7 +8,7 @@ returns c = (search (rules, others_none), search (rules, held_fits))
 
 first_between_requires : tie.Need-first-between-requires
 first_between_requires c κs =
-    (search rules, (search rules, (search (rules, all_few), (search (rules, none_whole, all_few), (search rules, (search rules, search (rules, filters_all)))))))
+    (search rules, (search rules, (search (rules, others_few), (search rules, (search rules, search (rules, filters_all))))))
 
 returns_2 : tie.Need-returns-2
 returns_2 c = (search (rules, others_are), search rules)

@@ -9,7 +9,6 @@ outcome_spec =
     (tie.spec
     (λ c κs. search rules)
     (λ c. search (rules, outcomes))
-    (λ c κs. search rules)
     (λ c κs. search (rules, outcomes))
     (λ c. search rules)
     (λ c. search rules)
