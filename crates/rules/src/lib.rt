@@ -2,6 +2,8 @@
 // What is right is said in specs/, in document 01's words; this file declares no function. Its constants are the numbers of
 // specs/Numbers.antt, for code: a proof of equality with a definition fails where the two differ.
 
+#![tactic(auto)]
+
 // The answers.
 pub const MATCH: usize = 0;
 

@@ -1,0 +1,18 @@
+use Rattle.std.proofs.Common.{rules}
+use Rattle.words.proofs.Laws.{laws}
+use Rattle.words.proofs.low.Goals as goal
+
+pub returns-then-n-lt16 : goal.returns-then-n-lt16
+returns-then-n-lt16 c = search (rules, laws)
+
+pub loop-at-init : goal.loop-at-init
+loop-at-init c = search (rules, laws)
+
+pub returns-then-not-fine : goal.returns-then-not-fine
+returns-then-not-fine c = search (rules, laws)
+
+pub loop-at-preserved : goal.loop-at-preserved
+loop-at-preserved c = search (rules, laws)
+
+pub returns : goal.returns
+returns c = search (rules, laws)

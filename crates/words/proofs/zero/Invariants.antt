@@ -1,0 +1,10 @@
+use Rattle.std.proofs.Common.{◌-◌, ◌≡◌, ◌+◌, ◌≤◌}
+use Rattle.words.specs.Words.{zero?}
+use Rattle.words.proofs.Every.{Left}
+use Rattle.words.proofs.zero.Given as goal
+
+abbrev pub invariant-loop-at : goal.invariant-loop-at
+invariant-loop-at l = (l.start ≤ l.last) × (l.last + 32 ≡ l.end) × (l.at ≤ l.end) × Left zero? l.s l.start l.end l.start l.at
+
+abbrev pub decreases-loop-at : goal.decreases-loop-at
+decreases-loop-at l = l.end - l.at
