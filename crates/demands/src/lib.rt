@@ -1,1 +1,2 @@
 // No code: specs/Statements.antt says the demands as theorems, and proofs/ proves them.
+#![tactic(auto)]

@@ -1,4 +1,6 @@
 // Bytes of a text: the classes of bytes, the comparison of texts with and without case, and the place of a byte; and the lengths of texts.
+#![tactic(auto)]
+
 ghost use Rattle.std.specs.Prelude.{◌≡◌, ◌+◌, ◌-◌, ◌<◌, ◌≤◌, length, drop, eqb};
 ghost use Rattle.rules.specs.Bytes.{all, any, same, before};
 ghost use Rattle.rules.specs.Names.{is, letter, digit, letter_digit_hyphen, scheme_byte, same_text};

@@ -29,7 +29,7 @@ module _ {A : Type 0} where
       go : (t : Bool) → eqb m.group g.number ≡ t → flat (push m (g ∷ gs)) ≡ m ∷ flat (g ∷ gs)
       go true e =
           let k : g.number ≡ m.group = sym (eqb-true m.group g.number e) in
-          rw (e, push) (rw k)
+          rw (e, push) (ap {B = List (Member A)} (λ (n : ℕ). record { group = n; value = m.value } ∷ flat (g ∷ gs)) k)
       go false e = rw (e, push)
 
   pub flat_groups : (l : List (Member A)) → flat (groups l) ≡ l

@@ -54,7 +54,7 @@ row_none at = refl
 -- it ends within the string
 pub row_within : {at end : ℕ} (rows : List Row) → Laid at end rows → (q : ℕ) (r : Row) → row_from q rows ≡ some r → r.start + r.length ≤ end
 row_within [] l q r e = absurd (no_some (sym (row_none q) ∙ e))
-row_within {at} {end} (p ∷ rows) (next h k l) q r e = go (row_within rows l q r) (leb q p.start) refl
+row_within {at} {end} (p ∷ rows) (next h k l) q r e = go (row_within {at = p.start + p.length} rows l q r) (leb q p.start) refl
   where
     go : (row_from q rows ≡ some r → r.start + r.length ≤ end) → (t : Bool) → leb q p.start ≡ t → r.start + r.length ≤ end
     go rest true f =

@@ -1,0 +1,12 @@
+use Rattle.std.proofs.Common.{rules}
+use Rattle.octets.proofs.Laws.{laws}
+use Rattle.octets.proofs.digits.Goals as goal
+
+pub loop-i-init : goal.loop-i-init
+loop-i-init c = search (rules, laws)
+
+pub loop-i-preserved : goal.loop-i-preserved
+loop-i-preserved c = search (rules, laws)
+
+pub returns : goal.returns
+returns c = search (rules, laws)

@@ -1,0 +1,12 @@
+use Rattle.std.proofs.Common.{rules}
+use Rattle.octets.proofs.Laws.{laws}
+use Rattle.octets.proofs.same_word.Goals as goal
+
+pub returns-then-x-y : goal.returns-then-x-y
+returns-then-x-y c = search (rules, laws)
+
+pub returns-then-small-other : goal.returns-then-small-other
+returns-then-small-other c = search (rules, laws)
+
+pub returns : goal.returns
+returns c = search (rules, laws)
