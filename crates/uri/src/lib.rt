@@ -1,4 +1,6 @@
 // URI-IDs, and what they match.
+#![tactic(auto)]
+
 ghost use Rattle.std.specs.Prelude.{◌≡◌, true, [], ◌∷◌, ◌≤◌, length};
 ghost use Rattle.rules.specs.Bytes.{before, begins};
 ghost use Rattle.rules.specs.Names.{slash, uri_id, uri_matches};
