@@ -1,4 +1,6 @@
 // DNS-IDs: whether a text is one, whether it matches the domain of a reference, and the dNSName restrictions of name constraints.
+#![tactic(auto)]
+
 ghost use Rattle.std.specs.Prelude.{◌≡◌, true, [], ◌∷◌, ◌≤◌, length};
 ghost use Rattle.rules.specs.Bytes.{begins, before};
 ghost use Rattle.rules.specs.Names.{is, star, dot, domain, dns_id, dns_matches, dns_restriction, dns_within, dns_reaches};

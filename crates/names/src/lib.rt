@@ -1,4 +1,6 @@
 // Whole texts of names: a service, a domain, a scheme.
+#![tactic(auto)]
+
 ghost use Rattle.std.specs.Prelude.{◌≡◌, true, ◌+◌, ◌-◌, ◌≤◌, length, get_or, eqb};
 ghost use Rattle.rules.specs.Bytes.{before};
 ghost use Rattle.rules.specs.Names as rules;

@@ -1,4 +1,6 @@
 // SRV-IDs, what they match, and the SRVName restrictions of name constraints.
+#![tactic(auto)]
+
 ghost use Rattle.std.specs.Prelude.{◌≡◌, true, false, [], ◌∷◌, ◌<◌, ◌≤◌, length};
 ghost use Rattle.rules.specs.Bytes.{any, before, begins};
 ghost use Rattle.rules.specs.Names.{dot, is, underscore, same_text, service_of, srv_id, srv_matches, in_subtree};
