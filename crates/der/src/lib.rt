@@ -1,4 +1,6 @@
 // DER elements, read from a part of a slice: `at` is where the part starts, `end` where it ends.
+#![tactic(auto)]
+
 ghost use Rattle.std.specs.Prelude.{◌+◌, ◌≤◌, ◌≡◌, true, length};
 ghost use Rattle.der.specs.Places.{element_at, placed_at, tagged_at, value_at, found?};
 ghost use Rattle.der.specs.Runs.{start_of, end_of};

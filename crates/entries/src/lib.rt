@@ -1,5 +1,7 @@
 // One name of a certificate string: a GeneralName, an attribute, a subtree. `start` and `end` are where its element's content
 // starts and ends, and `tag` is that element's tag.
+#![tactic(auto)]
+
 ghost use Rattle.std.specs.Prelude.{◌+◌, ◌≤◌, ◌≡◌, true, length, get_or};
 ghost use Rattle.rules.specs.San.{text_tag, sealed_tag};
 ghost use Rattle.rules.specs.Matching.{srv_text, tagged_text};

@@ -1,4 +1,6 @@
 // The constraint strings of all issuers, end to end in one slice beside their lengths: whether the lengths fit, and each string.
+#![tactic(auto)]
+
 ghost use Rattle.std.specs.Prelude.{ℕ, ◌≤◌, ◌*◌, ◌≡◌, true, List, length, take};
 ghost use Rattle.rules.specs.Seen.{lengths_fit, strings_of, strings_by, lengths_from_c};
 ghost use Rattle.issuers.specs.Strings.{start_of, string_at};

@@ -1,4 +1,6 @@
 // Bytes and DER elements put into a lent buffer. Each function puts its bytes at a place, and gives the place past them.
+#![tactic(auto)]
+
 ghost use Rattle.std.specs.Prelude.{◌≡◌, ◌<◌, ◌≤◌, ◌+◌, length};
 ghost use Rattle.rules.specs.Der.{element};
 ghost use Rattle.output.specs.Output.{Fits, Put, start, element_size};

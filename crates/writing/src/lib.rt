@@ -1,4 +1,6 @@
 // What both writers answer.
+#![tactic(auto)]
+
 ghost use Rattle.std.specs.Prelude.{◌≡◌};
 ghost use Rattle.rules.specs.Writing as writing;
 
