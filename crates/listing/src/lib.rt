@@ -1,5 +1,7 @@
 // The listing of a certificate string into a table that the caller lends. `planned` and `step_at` judge and read; `list` alone
 // touches the table: one loop, no branch. `which` is 0 for the SAN, 1 for the subject, any other number for the constraints.
+#![tactic(auto)]
+
 ghost use Rattle.std.specs.Prelude.{◌≡◌, length};
 ghost use Rattle.reading.specs.Calls.{refusal_of, listing_on, table_on};
 ghost use Rattle.listing.specs.Plans.{limit_of, count_of, refused, opened_of, plan_of};

@@ -1,4 +1,6 @@
 // A walk over the names of a certificate string: each step shows the row of one name.
+#![tactic(auto)]
+
 ghost use Rattle.std.specs.Prelude.{◌≤◌, ◌≡◌, length};
 ghost use Rattle.steps.specs.Steps.{stopped, cursor, shown, next_group, san_start, san_entry, san_step, set_opened, attribute_next, subject_start, subject_entry, subject_step, side_opened, subtree_next, constraints_start, constraints_entry, constraints_step};
 

@@ -1,4 +1,6 @@
 // The three certificate strings, read from a slice: whether each is readable, and how many names its list has.
+#![tactic(auto)]
+
 ghost use Rattle.std.specs.Prelude.{◌+◌, ◌<◌, ◌≤◌, ◌≡◌, length};
 ghost use Rattle.reading.specs.Strings.{read_san, read_subject, read_constraints};
 ghost use Rattle.strings.specs.Counts.{place_count, names_at, order_at, set_at, sets_at, side_at, sides_at};

@@ -1,6 +1,8 @@
 // The help desk's viewer (request 3/13): it holds the certificate bytes and its position, and each step shows one row. `view_at`
 // does the work over plain parameters; `open` and `step` are thin. A row's group is a count from the start of the string, so each
 // step reads the string from there. `which` is 0 for the SAN, 1 for the subject, any other number for the constraints.
+#![tactic(auto)]
+
 ghost use Rattle.std.specs.Prelude.{◌≡◌};
 ghost use Rattle.reading.specs.Calls.{opening_on, view_on};
 ghost use Rattle.viewer.specs.Viewers.{opened_by, stepped_by};

@@ -1,0 +1,12 @@
+use Rattle.std.proofs.Common.{rules}
+use Rattle.steps.proofs.Laws.{constraints_laws}
+use Rattle.steps.proofs.constraints_step.Goals as goal
+
+pub returns-then-s-end : goal.returns-then-s-end
+returns-then-s-end c = search (rules, constraints_laws)
+
+pub returns-then-end-at : goal.returns-then-end-at
+returns-then-end-at c = search (rules, constraints_laws)
+
+pub returns : goal.returns
+returns c = search (rules, constraints_laws)

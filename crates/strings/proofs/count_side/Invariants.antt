@@ -1,0 +1,10 @@
+use Rattle.std.proofs.Common.{◌-◌, ◌≤◌, ◌≡◌}
+use Rattle.strings.specs.Counts.{side_at}
+use Rattle.strings.specs.Counts.{side_on}
+use Rattle.strings.proofs.count_side.Given as goal
+
+abbrev pub invariant-loop-at : goal.invariant-loop-at
+invariant-loop-at l = (l.at ≤ l.end) × (l.k ≤ l.at) × (side_at l.s l.from l.end ≡ side_on l.s l.k l.at l.end)
+
+abbrev pub decreases-loop-at : goal.decreases-loop-at
+decreases-loop-at l = l.end - l.at
