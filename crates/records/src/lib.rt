@@ -1,4 +1,6 @@
 // Reference records: whether they are good, and the record reader. Document 01, "Reference records".
+#![tactic(auto)]
+
 ghost use Rattle.std.specs.Prelude.{◌<◌, ◌/◌, ◌≡◌, true, length};
 ghost use Rattle.rules.specs.Numbers.{record_size};
 ghost use Rattle.rules.specs.Records as records;

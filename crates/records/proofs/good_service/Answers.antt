@@ -1,0 +1,18 @@
+use Rattle.std.proofs.Common.{rules}
+use Rattle.records.proofs.Laws.{laws}
+use Rattle.records.proofs.good_service.Goals as goal
+
+pub returns-then-kind-eq-DNS : goal.returns-then-kind-eq-DNS
+returns-then-kind-eq-DNS c = search (rules, laws)
+
+pub returns-then-kind-eq-CN : goal.returns-then-kind-eq-CN
+returns-then-kind-eq-CN c = search (rules, laws)
+
+pub returns-then-kind-eq-SRV : goal.returns-then-kind-eq-SRV
+returns-then-kind-eq-SRV c = search (rules, laws)
+
+pub returns-then-kind-eq-URI : goal.returns-then-kind-eq-URI
+returns-then-kind-eq-URI c = search (rules, laws)
+
+pub returns : goal.returns
+returns c = search (rules, laws)
