@@ -1,6 +1,8 @@
 // The constraints of all issuers: which entry of a SAN breaks which string first. All strings have been validated, and nothing is judged
 // twice: a name and its form are told by their first bytes. One walk serves SRVNames and dNSNames; the form is a parameter, by its kind
 // in the listing: 9 or 2.
+#![tactic(auto)]
+
 ghost use Rattle.std.specs.Prelude.{ℕ, ◌+◌, ◌≤◌, ◌≡◌, true, ◌||◌, map, length};
 ghost use Rattle.rules.specs.Bytes.{all, before};
 ghost use Rattle.rules.specs.Names.{is, dot};

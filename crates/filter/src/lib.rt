@@ -1,5 +1,7 @@
 // A filter before the search for the first pair: the keys of a SAN's dNSNames, noted in a table in one walk, so that a reference that no
 // dNSName can match is not held against each of them.
+#![tactic(auto)]
+
 ghost use Rattle.std.specs.Prelude.{◌+◌, ◌≤◌, ◌<◌, ◌^◌, ◌%◌, ◌≡◌, true, length};
 ghost use Rattle.rules.specs.Bytes.{before};
 ghost use Rattle.rules.specs.Names.{is, dot};

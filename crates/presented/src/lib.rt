@@ -1,5 +1,7 @@
 // The identifiers that a certificate presents: the text of a SAN entry, and what an RDN set of the subject presents. The strings were
 // found readable before; all that is judged again here is an attribute, for its kind and the place of its value.
+#![tactic(auto)]
+
 ghost use Rattle.std.specs.Prelude.{◌+◌, ◌≤◌, ◌<◌, ◌≡◌, true, length};
 ghost use Rattle.rules.specs.Bytes.{any};
 ghost use Rattle.rules.specs.Matching.{entry_text, blocks_cn, if_some};
@@ -180,8 +182,8 @@ pub fn set_at(subject: &[u8], at: usize) -> Entry
     };
     while p < next {
         let a = attribute_at(subject, p, next);
-        c = with_cn(c, a);
         p = a.next;
+        c = with_cn(c, a);
     }
     if c.count == 1 {
         let element = c.entry.element;
