@@ -22,28 +22,28 @@ use entries::name_text;
 use rules::Breach;
 
 // The subtrees of one side, from the content of its first element to where the last one ends.
-#[derive(Drop)]
+#[derive(Clone, Copy)]
 struct Part {
     start: usize,
     end: usize,
 }
 
 // The permitted subtrees and the excluded ones.
-#[derive(Drop)]
+#[derive(Clone, Copy)]
 struct Sides {
     permitted: Part,
     excluded: Part,
 }
 
 // The index of the first entry that breaks a string, if one does.
-#[derive(Drop)]
+#[derive(Clone, Copy)]
 pub enum First {
     At(usize),
     Nothing,
 }
 
 // The first breach of all strings, if there is one.
-#[derive(Drop)]
+#[derive(Clone, Copy)]
 pub enum Breached {
     At(Breach),
     Nothing,

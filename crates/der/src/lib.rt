@@ -8,7 +8,7 @@ ghost use Rattle.der.specs.Runs.{start_of, end_of};
 use octets::wide;
 
 // What stands at the front of a part: an element, or why none is read.
-#[derive(Drop)]
+#[derive(Clone, Copy)]
 pub enum Element {
     // The tag, where the content starts, and where the next element would start.
     Found { tag: u8, start: usize, next: usize },

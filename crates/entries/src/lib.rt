@@ -19,7 +19,7 @@ use words::word;
 const CN_OID: [u8; 3] = [0x55, 0x04, 0x03];
 
 // A name as a listing and a verdict meet it.
-#[derive(Drop)]
+#[derive(Clone, Copy)]
 pub enum Name {
     // Its kind in the listing; the tag of the element whose content is its text, and where that starts: it ends where the name ends.
     Is { kind: usize, tag: u8, text: usize },

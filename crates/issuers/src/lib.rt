@@ -52,7 +52,7 @@ pub fn string_of<'a>(lengths: &[usize], bytes: &'a [u8], k: usize) -> &'a [u8]
 }
 
 // Lengths that C hands over: how many, and each. Nine are no lengths for any bytes.
-#[derive(Drop)]
+#[derive(Clone, Copy)]
 pub struct Lengths {
     pub count: usize,
     pub values: [usize; 9],

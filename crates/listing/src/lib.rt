@@ -14,7 +14,7 @@ use steps::{
 use strings::{Count, constraints_count, san_count, subject_count};
 
 // What the caller is told, how many rows are written (none on a refusal), and where the first name stands.
-#[derive(Drop)]
+#[derive(Clone, Copy)]
 pub struct Plan {
     pub listed: rules::Listed,
     pub rows: usize,

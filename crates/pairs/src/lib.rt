@@ -19,7 +19,7 @@ use records::{domain_of, kind_of, service_of};
 use rules::{CN, DNS, Outcome, Place, RECORD_SIZE, SRV, URI, Witness};
 
 // The witness of the first identifier that matches, if one does.
-#[derive(Drop)]
+#[derive(Clone, Copy)]
 enum Held {
     By(Witness),
     Nothing,

@@ -18,7 +18,7 @@ use entries::{Name, attribute, srv_text, tagged_text};
 use rules::{DNS, Place, SRV, URI};
 
 // An RDN set, as CN references meet it.
-#[derive(Drop)]
+#[derive(Clone, Copy)]
 pub struct Entry {
     // Whether it presents a text to them.
     pub presents: bool,
@@ -31,7 +31,7 @@ pub struct Entry {
 }
 
 // The header of an element: its tag, where its content starts, and where the next element would start.
-#[derive(Drop)]
+#[derive(Clone, Copy)]
 struct Header {
     tag: u8,
     start: usize,
@@ -39,7 +39,7 @@ struct Header {
 }
 
 // An attribute: whether it is a CN; what it then presents if it is the only one of its set; where the next starts.
-#[derive(Drop)]
+#[derive(Clone, Copy)]
 struct Typed {
     cn: bool,
     alone: Entry,
@@ -47,7 +47,7 @@ struct Typed {
 }
 
 // The CNs of a set: 0, 1, or 2 for more; and what the last of them presents if it is the only one.
-#[derive(Drop)]
+#[derive(Clone, Copy)]
 struct Sole {
     count: usize,
     entry: Entry,
@@ -182,8 +182,8 @@ pub fn set_at(subject: &[u8], at: usize) -> Entry
     };
     while p < next {
         let a = attribute_at(subject, p, next);
-        p = a.next;
         c = with_cn(c, a);
+        p = a.next;
     }
     if c.count == 1 {
         let element = c.entry.element;

@@ -75,7 +75,7 @@ pub const SRV_OID: [u8; 8] = [0x2B, 0x06, 0x01, 0x05, 0x05, 0x07, 0x08, 0x07];
 
 // A row of a listing: (kind, start, length, group).
 #[repr(C)]
-#[derive(Drop)]
+#[derive(Clone, Copy)]
 pub struct Row {
     pub kind: usize,
     pub start: usize,
@@ -85,21 +85,21 @@ pub struct Row {
 
 // What a listing answers: the answer, and the count or the count needed.
 #[repr(C)]
-#[derive(Drop)]
+#[derive(Clone, Copy)]
 pub struct Listed {
     pub answer: usize,
     pub count: usize,
 }
 
 // What a viewer shows: a name's row, or that it is at the end.
-#[derive(Drop)]
+#[derive(Clone, Copy)]
 pub enum Sight {
     Name(Row),
     End,
 }
 
 // A step of a viewer: what it shows, and the position after it.
-#[derive(Drop)]
+#[derive(Clone, Copy)]
 pub struct View {
     pub sight: Sight,
     pub at: usize,
@@ -107,7 +107,7 @@ pub struct View {
 
 // A step's six numbers. The numbers of each case are `view_numbers` of specs/Viewer.antt.
 #[repr(C)]
-#[derive(Drop)]
+#[derive(Clone, Copy)]
 pub struct ViewNumbers {
     pub shown: usize,
     pub kind: usize,
@@ -119,14 +119,14 @@ pub struct ViewNumbers {
 
 // What a writer answers: the answer, and the length of what is written.
 #[repr(C)]
-#[derive(Drop)]
+#[derive(Clone, Copy)]
 pub struct Written {
     pub answer: usize,
     pub length: usize,
 }
 
 // A verdict's six numbers.
-#[derive(Drop)]
+#[derive(Clone, Copy)]
 pub struct Verdict {
     pub answer: usize,
     pub reference: usize,
@@ -138,7 +138,7 @@ pub struct Verdict {
 
 // All numbers that C is told of a verdict: its own six, and where the witness's text lies. They are `all_numbers` of specs/Verdict.antt.
 #[repr(C)]
-#[derive(Drop)]
+#[derive(Clone, Copy)]
 pub struct VerdictNumbers {
     pub answer: u32,
     pub reference: u32,
@@ -151,7 +151,7 @@ pub struct VerdictNumbers {
 }
 
 // What the record reader shows: the answer, the record's kind, and the lengths of its service and its domain.
-#[derive(Drop)]
+#[derive(Clone, Copy)]
 pub struct Shown {
     pub answer: usize,
     pub kind: usize,
@@ -160,7 +160,7 @@ pub struct Shown {
 }
 
 // A part of a certificate string.
-#[derive(Drop)]
+#[derive(Clone, Copy)]
 pub struct Place {
     pub start: usize,
     pub length: usize,
@@ -168,7 +168,7 @@ pub struct Place {
 
 // The first pair that matches: the reference's index and the presented identifier's, the places of the identifier's DER
 // element and of its text, and whether they lie in the subject, as a CN does, or in the SAN.
-#[derive(Drop)]
+#[derive(Clone, Copy)]
 pub struct Witness {
     pub reference: usize,
     pub presented: usize,
@@ -178,14 +178,14 @@ pub struct Witness {
 }
 
 // A string of constraints that is broken: its issuer's index, and the index of the first SAN entry that breaks it.
-#[derive(Drop)]
+#[derive(Clone, Copy)]
 pub struct Breach {
     pub issuer: usize,
     pub presented: usize,
 }
 
 // How a verdict ends. The numbers of each case are `numbers_of` of specs/Verdict.antt.
-#[derive(Drop)]
+#[derive(Clone, Copy)]
 pub enum Outcome {
     // Answers 7, 6, 3, 4 and 5: an input is too long or unreadable.
     Refused(usize),

@@ -10,7 +10,7 @@ use octets::wide;
 use rules::Row;
 
 // Where a walk stands: at a name, in a part that ends at `end`, with that name's group.
-#[derive(Drop)]
+#[derive(Clone, Copy)]
 pub struct Cursor {
     pub at: usize,
     pub end: usize,
@@ -18,7 +18,7 @@ pub struct Cursor {
 }
 
 // A name's row, and where the walk goes on.
-#[derive(Drop)]
+#[derive(Clone, Copy)]
 pub struct Step {
     pub row: Row,
     pub next: Cursor,

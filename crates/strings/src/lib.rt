@@ -11,7 +11,7 @@ use entries::{Name, attribute, good_name, good_subtree};
 use octets::wide;
 
 // How many names a string's list has.
-#[derive(Drop)]
+#[derive(Clone, Copy)]
 pub enum Count {
     Of(usize),
     Unreadable,

@@ -25,8 +25,7 @@ pub loop-i-preserved : goal.loop-i-preserved
 loop-i-preserved c =
     let fits : c.planned-p.result.rows ≤ length c.args.table.now = rw c.planned-p.ensures (rows_fit c.args.which c.args.bytes.now (length c.args.table.now)) in
     let step = step_of c.args.which c.args.bytes.now in
-    let inv = c.loop-i.invariant in
-    (
+    let inv = c.loop-i.invariant in (
       omega arith,
       rw (c.step_at-t.ensures, inv.2, inv.1) (set_next step c.loop-i.i c.planned-p.result.first c.args.table.now (omega arith)),
       rw (c.step_at-t.ensures, inv.2) (next_after step c.loop-i.i c.planned-p.result.first),
@@ -34,8 +33,7 @@ loop-i-preserved c =
 
 pub returns : goal.returns
 returns c =
-    let all : c.loop-i.i ≡ c.planned-p.result.rows = omega arith in
-    (
+    let all : c.loop-i.i ≡ c.planned-p.result.rows = omega arith in (
       rw c.planned-p.ensures (listed_is c.args.which c.args.bytes.now (length c.args.table.now)),
       c.loop-i.invariant.1 ∙ rw (all, c.planned-p.ensures) (table_is c.args.which c.args.bytes.now c.args.table.now),
     )
