@@ -5,7 +5,7 @@ use mathlib.Core.Bool.{true}
 use mathlib.Core.List.{List, [], ◌∷◌, ◌++◌, append_assoc}
 use native.Mathlib.Nat.{sub-zero, zero-sub, suc-sub-suc}
 use native.Mathlib.Omega.{arith}
-use lib.ListN.{length, drop, set, replicate, length-append, replicate-append-replicate}
+use lib.ListN.{length, drop, set, replicate, replicate-append-replicate}
 use lib.Seq.{drop-drop, take_at, drop_at}
 use lib.Dec.{leb}
 use borrow.Author.Tests.{leb-true}
@@ -50,7 +50,7 @@ pub built :
 unfolding record_for Put
 built kind n m s d a b i j f g e k hs hd =
     let h : List ℕ = kind ∷ 0 ∷ n ∷ m ∷ [] in
-    let e₂ : length (h ++ field 63 s) ≡ 67 = simp (length-append, field_length 63 s hs) in
+    let e₂ : length (h ++ field 63 s) ≡ 67 = simp (field_length 63 s hs) in
     g.0
     ∙ ap (λ (x : List ℕ). pasted x 67 d) (f.0 ∙ put_in_zeros h s 4 63 253 refl hs ∙ rw (← append_assoc))
     ∙ put_in_last (h ++ field 63 s) d 67 253 e₂ hd

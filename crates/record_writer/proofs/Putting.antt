@@ -5,7 +5,6 @@ use mathlib.Core.Bool.{Bool, true, false, not}
 use mathlib.Core.List.{List, [], ◌∷◌, ◌++◌}
 use native.Mathlib.Omega.{arith}
 use lib.ListN.{length, get_or, take, drop}
-use borrow.Author.Tests.{not-false}
 use Rattle.rules.specs.Bytes.{all, cut}
 use Rattle.rules.specs.Numbers.{record_size, records_limit, service_size, domain_size}
 use Rattle.rules.specs.Records.{Reference, reference}
@@ -18,7 +17,7 @@ use Rattle.output.specs.Output.{Fits, Put}
 use Rattle.output.proofs.Laws.{Left, left_begin, left_first, left_next, left_end}
 use Rattle.writing.specs.Capped.{capped}
 use Rattle.writing.proofs.Adding.{EndsAt, ends_begin}
-use Rattle.writing.proofs.Answers.{capped_alike, capped_over, capped_within}
+use Rattle.writing.proofs.Answers.{capped_alike, capped_over, capped_within, Promised, no_room, good_fits, all_put}
 use Rattle.writing.proofs.Judging.{good_lengths, good_sum, good_names_lem}
 use Rattle.record_writer.specs.Ready.{Ready}
 use Rattle.record_writer.proofs.Listing.{references_from, references_next, references_end, texts_next}
@@ -94,9 +93,9 @@ count_is (k ∷ ks) [] ts e = absurd (omega arith)
 count_is (k ∷ ks) (n ∷ []) ts e = absurd (omega arith)
 count_is (k ∷ ks) (n ∷ m ∷ ns) ts e = ap suc (count_is ks ns (drop m (drop n ts)) (omega arith))
 
-module _ (ks ns ts : List ℕ) (g : Bool) (g_is : g ≡ good_list record_writer (request ks ns ts)) (so : not g ≡ false) where
-  pub all_good : good_list record_writer (request ks ns ts) ≡ true
-  all_good = sym g_is ∙ not-false g so
+module _ (ks ns ts : List ℕ) (g : Bool) (g_is : g ≡ good_list record_writer (request ks ns ts)) (so : g ≡ true) where
+  all_good : good_list record_writer (request ks ns ts) ≡ true
+  all_good = sym g_is ∙ so
 
   sized : length (result_of record_writer (request ks ns ts)) ≡ length ks * record_size
   unfolding result_of asked
@@ -104,6 +103,21 @@ module _ (ks ns ts : List ℕ) (g : Bool) (g_is : g ≡ good_list record_writer 
       run_length (references ks (cut ns ts)) (good_names_lem record_writer (request ks ns ts) all_good)
       ∙ ap (λ n. n * record_size) (count_is ks ns ts (good_lengths record_writer (request ks ns ts) all_good))
 
-  pub measured : (m : ℕ) → m ≡ capped records_limit (length ks * record_size) → (lent : ℕ) (w : Written) → w ≡ fitted 5120 m lent
-      → w ≡ fitted 5120 (length (result_of record_writer (request ks ns ts))) lent
-  measured m m_is lent w w_is = w_is ∙ rw (m_is, sized) (capped_alike (λ n. n) (λ n. omega arith) 5120 (length ks * 320) lent)
+  module _ (some : length ks ≡ 0 → ⊥) (m : ℕ) (m_is : m ≡ capped records_limit (length ks * record_size)) (b : List ℕ) (w : Written) (w_is : w ≡ fitted 5120 m (length b)) where
+    not_bad : not g ≡ false
+    not_bad = rw so
+
+    -- the measure answers as the result's length does
+    measured : w ≡ fitted 5120 (length (result_of record_writer (request ks ns ts))) (length b)
+    measured = w_is ∙ rw (m_is, sized) (capped_alike (λ n. n) (λ n. omega arith) 5120 (length ks * 320) (length b))
+
+    pub records_refused : (w.answer ≡ 0 → ⊥) → Promised record_writer (request ks ns ts) b w b
+    records_refused = no_room record_writer (request ks ns ts) b w some g g_is not_bad measured
+
+    module _ (z : w.answer ≡ 0) where
+      pub ready : Ready ks ns ts b
+      ready = record { good = all_good; fits = good_fits record_writer (request ks ns ts) b w some g g_is not_bad measured z }
+
+      pub records_put : (b' : List ℕ) (next : ℕ) → Put b 0 (result_of record_writer (request ks ns ts)) b' next
+          → Promised record_writer (request ks ns ts) b w b'
+      records_put = all_put record_writer (request ks ns ts) b w some g g_is not_bad measured z

@@ -1,4 +1,6 @@
 // The writer of reference records: it judges the list, and puts the records from left to right. Request 4/13.
+#![tactic(auto)]
+
 ghost use Rattle.std.specs.Prelude.{◌≡◌, length, ◌≤◌, ◌*◌};
 ghost use Rattle.rules.specs.Numbers.{service_size, domain_size, record_size, records_limit};
 ghost use Rattle.rules.specs.Records.{reference};

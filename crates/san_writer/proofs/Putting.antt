@@ -5,7 +5,6 @@ use mathlib.Core.Bool.{Bool, true, false, not}
 use mathlib.Core.List.{List, ◌++◌, map}
 use native.Mathlib.Omega.{arith}
 use lib.ListN.{length, get_or, take, drop, length-append}
-use borrow.Author.Tests.{not-false}
 use Rattle.rules.specs.Bytes.{sum}
 use Rattle.rules.specs.Numbers.{san_limit}
 use Rattle.rules.specs.Der.{element, run}
@@ -16,7 +15,7 @@ use Rattle.output.specs.Output.{Fits, Put, start, element_size}
 use Rattle.output.proofs.Laws.{Left, left_begin, left_first, left_next, left_end, element_is, element_length}
 use Rattle.writing.specs.Capped.{capped}
 use Rattle.writing.proofs.Adding.{EndsAt, ends_begin, ends_next}
-use Rattle.writing.proofs.Answers.{fit_within, capped_is, capped_alike}
+use Rattle.writing.proofs.Answers.{fit_within, capped_is, capped_alike, Promised, no_room, good_fits, all_put}
 use Rattle.writing.proofs.Judging.{good_lengths, good_sum}
 use Rattle.san_writer.specs.Sizes.{sizes, content_for, Ready}
 use Rattle.san_writer.proofs.Listing.{names_from, names_next, names_end}
@@ -46,10 +45,10 @@ module _ (kind : ℕ) (t b : List ℕ) (at : ℕ) where
 
 -- an SRVName, in four parts
 module _ (t : List ℕ) (n w : ℕ) (n_is : n ≡ element_size (length t)) (w_is : w ≡ element_size n) where
-  abbrev pub srv_value : List ℕ
+  abbrev srv_value : List ℕ
   srv_value = start 0xA0 n ++ element 0x16 t
 
-  abbrev pub srv_content : List ℕ
+  abbrev srv_content : List ℕ
   srv_content = element 0x06 srv_oid ++ srv_value
 
   value_is : element 0xA0 (element 0x16 t) ≡ srv_value
@@ -62,10 +61,37 @@ module _ (t : List ℕ) (n w : ℕ) (n_is : n ≡ element_size (length t)) (w_is
   unfolding write_name tag_of content_of
   srv_is = rw value_is (element_is 0xA0 srv_content (10 + w) content_long)
 
-  pub srv_begin : (b : List ℕ) (at : ℕ) → Fits b at (write_name (other srv_oid 0x16 t))
-      → Left b at (write_name (other srv_oid 0x16 t)) b at (start 0xA0 (10 + w) ++ srv_content)
-  srv_begin b at fits =
-      subst (Left b at (write_name (other srv_oid 0x16 t)) b at) srv_is (left_begin b at (write_name (other srv_oid 0x16 t)) fits)
+  module _ (b : List ℕ) (at : ℕ) (fits : Fits b at (write_name (other srv_oid 0x16 t))) where
+    srv_begin : Left b at (write_name (other srv_oid 0x16 t)) b at (start 0xA0 (10 + w) ++ srv_content)
+    srv_begin =
+        subst (Left b at (write_name (other srv_oid 0x16 t)) b at) srv_is (left_begin b at (write_name (other srv_oid 0x16 t)) fits)
+
+    pub fits_wrapper : Fits b at (start 0xA0 (10 + w))
+    fits_wrapper = left_first _ _ _ _ _ _ _ srv_begin
+
+    module _ (b₁ : List ℕ) (at₁ : ℕ) (put₁ : Put b at (start 0xA0 (10 + w)) b₁ at₁) where
+      content_left : Left b at (write_name (other srv_oid 0x16 t)) b₁ at₁ srv_content
+      content_left = left_next _ _ _ _ _ _ _ srv_begin b₁ at₁ put₁
+
+      pub fits_oid : Fits b₁ at₁ (element 0x06 srv_oid)
+      fits_oid = left_first _ _ _ _ _ _ _ content_left
+
+      module _ (b₂ : List ℕ) (at₂ : ℕ) (put₂ : Put b₁ at₁ (element 0x06 srv_oid) b₂ at₂) where
+        value_left : Left b at (write_name (other srv_oid 0x16 t)) b₂ at₂ srv_value
+        value_left = left_next _ _ _ _ _ _ _ content_left b₂ at₂ put₂
+
+        pub fits_value : Fits b₂ at₂ (start 0xA0 n)
+        fits_value = left_first _ _ _ _ _ _ _ value_left
+
+        module _ (b₃ : List ℕ) (at₃ : ℕ) (put₃ : Put b₂ at₂ (start 0xA0 n) b₃ at₃) where
+          text_left : Left b at (write_name (other srv_oid 0x16 t)) b₃ at₃ (element 0x16 t)
+          text_left = left_next _ _ _ _ _ _ _ value_left b₃ at₃ put₃
+
+          pub fits_text : Fits b₃ at₃ (element 0x16 t)
+          fits_text = text_left.fits
+
+          pub srv_put : (b₄ : List ℕ) (at₄ : ℕ) → Put b₃ at₃ (element 0x16 t) b₄ at₄ → Put b at (write_name (other srv_oid 0x16 t)) b₄ at₄
+          srv_put = text_left.leads
 
 -- ---- the names
 
@@ -127,13 +153,13 @@ module _ (ks ns ts b₀ : List ℕ) (at₀ : ℕ) (b : List ℕ) (out at i : ℕ
 -- ---- the SAN
 
 module _ (ks ns ts : List ℕ) where
-  pub san_is : result_of san_writer (request ks ns ts) ≡ element 0x30 (content_for ks ns ts)
+  san_is : result_of san_writer (request ks ns ts) ≡ element 0x30 (content_for ks ns ts)
   unfolding result_of asked content_for
   san_is = refl
 
-  module _ (g : Bool) (g_is : g ≡ good_list san_writer (request ks ns ts)) (so : not g ≡ false) where
+  module _ (g : Bool) (g_is : g ≡ good_list san_writer (request ks ns ts)) (so : g ≡ true) where
     good : good_list san_writer (request ks ns ts) ≡ true
-    good = sym g_is ∙ not-false g so
+    good = sym g_is ∙ so
 
     pub as_many : length ns ≡ length ks
     as_many = omega (arith, good_lengths san_writer (request ks ns ts) good)
@@ -144,26 +170,42 @@ module _ (ks ns ts : List ℕ) where
     sized : length (result_of san_writer (request ks ns ts)) ≡ element_size (sizes ks ns)
     sized = rw (san_is, element_length, content_length ks ns ts (omega (arith, whole)))
 
-    module _ (m : ℕ) (m_is : m ≡ capped san_limit (sizes ks ns)) (size : ℕ) (size_is : size ≡ element_size m) (lent : ℕ) (w : Written) (w_is : w ≡ fitted 16384 size lent) where
+    module _ (some : length ks ≡ 0 → ⊥) (m : ℕ) (m_is : m ≡ capped san_limit (sizes ks ns)) (size : ℕ) (size_is : size ≡ element_size m) (b : List ℕ) (w : Written) (w_is : w ≡ fitted 16384 size (length b)) where
+      not_bad : not g ≡ false
+      not_bad = rw so
+
       -- the measure answers as the result's length does
-      pub measured : w ≡ fitted 16384 (length (result_of san_writer (request ks ns ts))) lent
-      measured = w_is ∙ rw (size_is, sized, m_is) (capped_alike element_size size_within 16384 (sizes ks ns) lent)
+      measured : w ≡ fitted 16384 (length (result_of san_writer (request ks ns ts))) (length b)
+      measured = w_is ∙ rw (size_is, sized, m_is) (capped_alike element_size size_within 16384 (sizes ks ns) (length b))
+
+      pub san_refused : (w.answer ≡ 0 → ⊥) → Promised san_writer (request ks ns ts) b w b
+      san_refused = no_room san_writer (request ks ns ts) b w some g g_is not_bad measured
 
       module _ (z : w.answer ≡ 0) where
         within : element_size m ≤ 16384
-        within = rw (← size_is) (fit_within 16384 size lent (rw (← w_is) z)).0
+        within = rw (← size_is) (fit_within 16384 size (length b) (rw (← w_is) z)).0
 
-        pub content_short : m ≤ 16384
+        content_short : m ≤ 16384
         content_short = omega (arith, within, size_within m)
 
         content_is : m ≡ length (content_for ks ns ts)
         content_is = capped_is 16384 (sizes ks ns) m m_is content_short ∙ sym (content_length ks ns ts (omega (arith, whole)))
 
-        pub san_begin : (b : List ℕ) → Fits b 0 (result_of san_writer (request ks ns ts))
-            → Left b 0 (result_of san_writer (request ks ns ts)) b 0 (start 0x30 m ++ content_for ks ns ts)
-        san_begin b fits =
+        san_begin : Left b 0 (result_of san_writer (request ks ns ts)) b 0 (start 0x30 m ++ content_for ks ns ts)
+        san_begin =
             subst (Left b 0 (result_of san_writer (request ks ns ts)) b 0) (san_is ∙ element_is 0x30 (content_for ks ns ts) m content_is)
-            (left_begin b 0 (result_of san_writer (request ks ns ts)) fits)
+            (left_begin b 0 _ (good_fits san_writer (request ks ns ts) b w some g g_is not_bad measured z))
 
-        pub ready : (b : List ℕ) (at : ℕ) → Fits b at (content_for ks ns ts) → Ready ks ns ts b at
-        ready b at fits = record { many = as_many; whole = whole; short = omega (arith, content_is, content_short); fits = fits }
+        pub fits_start : Fits b 0 (start 0x30 m)
+        fits_start = left_first _ _ _ _ _ _ _ san_begin
+
+        module _ (b' : List ℕ) (at : ℕ) (put : Put b 0 (start 0x30 m) b' at) where
+          san_left : Left b 0 (result_of san_writer (request ks ns ts)) b' at (content_for ks ns ts)
+          san_left = left_next _ _ _ _ _ _ _ san_begin b' at put
+
+          pub ready : Ready ks ns ts b' at
+          ready = record { many = as_many; whole = whole; short = omega (arith, content_is, content_short); fits = san_left.fits }
+
+          pub san_put : (b'' : List ℕ) (at' : ℕ) → Put b' at (content_for ks ns ts) b'' at' → Promised san_writer (request ks ns ts) b w b''
+          san_put b'' at' names =
+              all_put san_writer (request ks ns ts) b w some g g_is not_bad measured z b'' at' (san_left.leads b'' at' names)

@@ -1,4 +1,6 @@
 // The writer of SAN values: it judges the list, measures the result, and puts the names from left to right. Request 4/13.
+#![tactic(auto)]
+
 ghost use Rattle.std.specs.Prelude.{◌≡◌, ◌≤◌, length};
 ghost use Rattle.rules.specs.Numbers.{san_limit};
 ghost use Rattle.rules.specs.San.{other, srv_oid, write_name};
