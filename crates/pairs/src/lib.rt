@@ -1,4 +1,6 @@
 // The first pair of a reference and a presented identifier that match: lowest reference, then lowest name.
+#![tactic(auto)]
+
 ghost use Rattle.std.specs.Prelude.{◌+◌, ◌≤◌, ◌<◌, ◌/◌, ◌≡◌, true, false, [], length, drop};
 ghost use Rattle.rules.specs.Bytes.{before};
 ghost use Rattle.rules.specs.Names.{dot, is};
