@@ -1,7 +1,7 @@
 use Rattle.std.proofs.Common.{rules, ◌≡◌, false}
 use Rattle.der.specs.Places.{found?}
 use Rattle.entries.proofs.Laws.{laws}
-use Rattle.entries.proofs.Shapes.{not_found}
+use Rattle.entries.proofs.Shapes.{none_found}
 use Rattle.entries.proofs.attribute.Goals as goal
 
 pub returns-then-tag-ne48 : goal.returns-then-tag-ne48
@@ -24,7 +24,7 @@ value-v-requires-clause-at_le_end c = search (rules, laws)
 
 pub returns-in_default-v : goal.returns-in_default-v
 returns-in_default-v c =
-    let q : found? c.value-v.result ≡ false = not_found c.value-v.result c.in_default-v.not-Found in
+    let q : found? c.value-v.result ≡ false = none_found c.value-v.result c.in_default-v.not-Found in
     search (rules, laws)
 
 pub returns-then-past-end : goal.returns-then-past-end

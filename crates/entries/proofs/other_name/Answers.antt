@@ -1,7 +1,7 @@
 use Rattle.std.proofs.Common.{rules, ◌≡◌, false}
 use Rattle.der.specs.Places.{found?}
 use Rattle.entries.proofs.Laws.{laws}
-use Rattle.entries.proofs.Shapes.{not_found}
+use Rattle.entries.proofs.Shapes.{none_found}
 use Rattle.entries.proofs.other_name.Goals as goal
 
 pub returns-in_default : goal.returns-in_default
@@ -21,7 +21,7 @@ tagged-w-requires-clause-at_le_end c = search (rules, laws)
 
 pub returns-in_default-w : goal.returns-in_default-w
 returns-in_default-w c =
-    let q : found? c.tagged-w.result ≡ false = not_found c.tagged-w.result c.in_default-w.not-Found in
+    let q : found? c.tagged-w.result ≡ false = none_found c.tagged-w.result c.in_default-w.not-Found in
     search (rules, laws)
 
 pub returns-then-last-end : goal.returns-then-last-end
@@ -32,7 +32,7 @@ value-v-requires-clause-at_le_end c = search (rules, laws)
 
 pub returns-in_default-v : goal.returns-in_default-v
 returns-in_default-v c =
-    let q : found? c.value-v.result ≡ false = not_found c.value-v.result c.in_default-v.not-Found in
+    let q : found? c.value-v.result ≡ false = none_found c.value-v.result c.in_default-v.not-Found in
     search (rules, laws)
 
 pub returns-then-past-end : goal.returns-then-past-end
