@@ -1,4 +1,6 @@
 // The verdict on a certificate: how it ends, its six numbers, and the witness's text as a part of the certificate's own bytes.
+#![tactic(auto)]
+
 ghost use Rattle.std.specs.Prelude.{◌≡◌, true, length};
 ghost use Rattle.std.proofs.Math.Option.{some};
 ghost use Rattle.rules.specs.Seen.{lengths_fit};

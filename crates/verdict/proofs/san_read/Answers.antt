@@ -1,0 +1,12 @@
+use Rattle.std.proofs.Common.{rules}
+use Rattle.verdict.proofs.Laws.{laws}
+use Rattle.verdict.proofs.san_read.Goals as goal
+
+pub returns-then-s-eq0 : goal.returns-then-s-eq0
+returns-then-s-eq0 c = search (rules, laws)
+
+pub returns-in-Of : goal.returns-in-Of
+returns-in-Of c = search (rules, laws)
+
+pub returns-in-Unreadable : goal.returns-in-Unreadable
+returns-in-Unreadable c = search (rules, laws)

@@ -1,0 +1,15 @@
+use Rattle.std.proofs.Common.{rules}
+use Rattle.verdict.proofs.Laws.{texts}
+use Rattle.verdict.proofs.text_of.Goals as goal
+
+pub returns-in-Matched : goal.returns-in-Matched
+returns-in-Matched c = search (rules, texts)
+
+pub returns-in-Refused : goal.returns-in-Refused
+returns-in-Refused c = search (rules, texts)
+
+pub returns-in-Broken : goal.returns-in-Broken
+returns-in-Broken c = search (rules, texts)
+
+pub returns-in-Mismatched : goal.returns-in-Mismatched
+returns-in-Mismatched c = search (rules, texts)
