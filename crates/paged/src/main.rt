@@ -28,19 +28,29 @@ fn write_view(rt: &impl Print, before: &[u8], v: View) -> io::Result<()> {
     write_number(rt, b" then ", at)
 }
 
+// What is shown from a position; the position after it.
+fn write_from(
+    rt: &impl Print,
+    before: &[u8],
+    bytes: &[u8],
+    which: usize,
+    at: usize,
+) -> io::Result<usize> {
+    let v = viewer::viewed(bytes, which, at);
+    let next = v.at;
+    write_view(rt, before, v)?;
+    Ok(next)
+}
+
 // The opening's answer, and five steps from there.
 fn page(rt: &impl Print, title: &[u8], bytes: &[u8], which: usize) -> io::Result<()> {
     rt.write_all(title)?;
     write_number(rt, b": ", viewer::opening(bytes, which))?;
-    let first = viewer::viewed(bytes, which, 0);
-    write_view(rt, b"; ", first)?;
-    let second = viewer::viewed(bytes, which, first.at);
-    write_view(rt, b", ", second)?;
-    let third = viewer::viewed(bytes, which, second.at);
-    write_view(rt, b", ", third)?;
-    let fourth = viewer::viewed(bytes, which, third.at);
-    write_view(rt, b", ", fourth)?;
-    write_view(rt, b", ", viewer::viewed(bytes, which, fourth.at))?;
+    let first = write_from(rt, b"; ", bytes, which, 0)?;
+    let second = write_from(rt, b", ", bytes, which, first)?;
+    let third = write_from(rt, b", ", bytes, which, second)?;
+    let fourth = write_from(rt, b", ", bytes, which, third)?;
+    let _ = write_from(rt, b", ", bytes, which, fourth)?;
     rt.write_all(b"\n")
 }
 
