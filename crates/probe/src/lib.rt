@@ -1,5 +1,7 @@
 // The comparison of texts by itself, for `make bench` to time and for the second program to hold against its own. It has an archive of
 // its own, and is no part of the one that users link.
+#![tactic(auto)]
+
 ghost use Rattle.std.specs.Prelude.{◌≡◌, cond};
 ghost use Rattle.rules.specs.Names.{same_text};
 
