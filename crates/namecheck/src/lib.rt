@@ -163,8 +163,8 @@ fn show_rows(rt: &impl Print, san: &[u8]) {
 }
 
 // The exit status of a verdict: 0 for a match and for nothing else.
-fn status(v: &rules::Verdict) -> u32
-    ensures { result ≡ status_of v.now }
+fn status(v: rules::Verdict) -> u32
+    ensures { result ≡ status_of v }
 {
     if v.answer == rules::MATCH {
         return MATCHED;
@@ -189,10 +189,9 @@ fn judge(rt: &impl Print, san: &[u8], subject: &[u8], constraints: &[u8], refere
     ensures { result ≡ status_of (verdict_on (inputs san.now subject.now constraints.now (some (one_length constraints.now)) references.now)) }
 {
     let v = verdict_of(san, subject, constraints, references);
-    let ends = status(&v);
     show_verdict(rt, v);
     show_rows(rt, san);
-    ends
+    status(v)
 }
 
 // Reads the four files and, once each is read, judges them; the exit status.
