@@ -22,7 +22,7 @@ demo:
 	@tests/alone tests/demo
 
 check:
-	@tests/alone rt check
+	@tests/alone tests/check
 
 build:
 	@tests/alone tests/archive

@@ -1,5 +1,7 @@
-// What a C program calls: include/beckethand.h says each call in words. A slice is a pointer and a length. Each function of a verdict
-// takes the four strings and the lengths of the constraints, and answers one number, or all of them.
+// What a C program calls, as a library: `beckethand_c` exports each function under its name, and include/beckethand.h says each call in
+// words. Each function of a verdict takes the four strings and the lengths of the constraints, and answers one number, or all of them.
+#![tactic(auto)]
+
 ghost use Rattle.std.specs.Prelude.{◌≤◌, ◌≡◌, length};
 ghost use Rattle.rules.specs.Numbers.{san_limit};
 ghost use Rattle.rules.specs.Records.{shown};
@@ -14,8 +16,7 @@ use issuers::lengths_from_c;
 use rules::{Outcome, Place, Verdict, VerdictNumbers};
 
 // The version of these calls: major * 10000 + minor * 100 + patch. BECKETHAND_VERSION of include/beckethand.h is the same number.
-#[unsafe(no_mangle)]
-pub extern "C" fn beckethand_version() -> u32
+pub fn beckethand_version() -> u32
     ensures { result ≡ 10100 }
 {
     10100
@@ -65,8 +66,7 @@ fn with_place(v: Verdict, text: Place) -> VerdictNumbers
 }
 
 // All numbers, from one outcome.
-#[unsafe(no_mangle)]
-pub extern "C" fn beckethand_verdict(
+pub fn beckethand_verdict(
     san: &[u8],
     subject: &[u8],
     constraints: &[u8],
@@ -82,8 +82,7 @@ pub extern "C" fn beckethand_verdict(
 }
 
 // The verdict's answer.
-#[unsafe(no_mangle)]
-pub extern "C" fn beckethand_answer(
+pub fn beckethand_answer(
     san: &[u8],
     subject: &[u8],
     constraints: &[u8],
@@ -97,8 +96,7 @@ pub extern "C" fn beckethand_answer(
 }
 
 // The index of the reference that matches.
-#[unsafe(no_mangle)]
-pub extern "C" fn beckethand_reference(
+pub fn beckethand_reference(
     san: &[u8],
     subject: &[u8],
     constraints: &[u8],
@@ -112,8 +110,7 @@ pub extern "C" fn beckethand_reference(
 }
 
 // The index of the presented identifier that it matches, or of the first that breaks the constraints of an issuer.
-#[unsafe(no_mangle)]
-pub extern "C" fn beckethand_presented(
+pub fn beckethand_presented(
     san: &[u8],
     subject: &[u8],
     constraints: &[u8],
@@ -127,8 +124,7 @@ pub extern "C" fn beckethand_presented(
 }
 
 // Where the identifier's DER element starts.
-#[unsafe(no_mangle)]
-pub extern "C" fn beckethand_start(
+pub fn beckethand_start(
     san: &[u8],
     subject: &[u8],
     constraints: &[u8],
@@ -142,8 +138,7 @@ pub extern "C" fn beckethand_start(
 }
 
 // How long that element is.
-#[unsafe(no_mangle)]
-pub extern "C" fn beckethand_length(
+pub fn beckethand_length(
     san: &[u8],
     subject: &[u8],
     constraints: &[u8],
@@ -157,8 +152,7 @@ pub extern "C" fn beckethand_length(
 }
 
 // The index of the issuer whose constraints are broken.
-#[unsafe(no_mangle)]
-pub extern "C" fn beckethand_issuer(
+pub fn beckethand_issuer(
     san: &[u8],
     subject: &[u8],
     constraints: &[u8],
@@ -172,8 +166,7 @@ pub extern "C" fn beckethand_issuer(
 }
 
 // Where the witness's text starts.
-#[unsafe(no_mangle)]
-pub extern "C" fn beckethand_text_start(
+pub fn beckethand_text_start(
     san: &[u8],
     subject: &[u8],
     constraints: &[u8],
@@ -187,8 +180,7 @@ pub extern "C" fn beckethand_text_start(
 }
 
 // How long it is.
-#[unsafe(no_mangle)]
-pub extern "C" fn beckethand_text_length(
+pub fn beckethand_text_length(
     san: &[u8],
     subject: &[u8],
     constraints: &[u8],
@@ -202,8 +194,7 @@ pub extern "C" fn beckethand_text_length(
 }
 
 // The record reader's answer.
-#[unsafe(no_mangle)]
-pub extern "C" fn beckethand_record_answer(references: &[u8], index: usize) -> u32
+pub fn beckethand_record_answer(references: &[u8], index: usize) -> u32
     ensures { result ≡ (shown references.now index).answer }
 {
     let s = records::show(references, index);
@@ -211,8 +202,7 @@ pub extern "C" fn beckethand_record_answer(references: &[u8], index: usize) -> u
 }
 
 // The kind of the record at an index.
-#[unsafe(no_mangle)]
-pub extern "C" fn beckethand_record_kind(references: &[u8], index: usize) -> u32
+pub fn beckethand_record_kind(references: &[u8], index: usize) -> u32
     ensures { result ≡ (shown references.now index).kind }
 {
     let s = records::show(references, index);
@@ -220,8 +210,7 @@ pub extern "C" fn beckethand_record_kind(references: &[u8], index: usize) -> u32
 }
 
 // The length of its service.
-#[unsafe(no_mangle)]
-pub extern "C" fn beckethand_record_service_length(references: &[u8], index: usize) -> u32
+pub fn beckethand_record_service_length(references: &[u8], index: usize) -> u32
     ensures { result ≡ (shown references.now index).service }
 {
     let s = records::show(references, index);
@@ -229,8 +218,7 @@ pub extern "C" fn beckethand_record_service_length(references: &[u8], index: usi
 }
 
 // The length of its domain.
-#[unsafe(no_mangle)]
-pub extern "C" fn beckethand_record_domain_length(references: &[u8], index: usize) -> u32
+pub fn beckethand_record_domain_length(references: &[u8], index: usize) -> u32
     ensures { result ≡ (shown references.now index).domain }
 {
     let s = records::show(references, index);
@@ -238,12 +226,7 @@ pub extern "C" fn beckethand_record_domain_length(references: &[u8], index: usiz
 }
 
 // The listing of one of the three certificate strings: `which` is 0 for the SAN, 1 for the subject, else the constraints.
-#[unsafe(no_mangle)]
-pub extern "C" fn beckethand_list(
-    table: &mut [rules::Row],
-    bytes: &[u8],
-    which: usize,
-) -> rules::Listed
+pub fn beckethand_list(table: &mut [rules::Row], bytes: &[u8], which: usize) -> rules::Listed
     ensures { (result ≡ listing_on which bytes.now (length table.old))
         × (table.new ≡ table_on which bytes.now table.old) }
 {
@@ -251,8 +234,7 @@ pub extern "C" fn beckethand_list(
 }
 
 // How a viewer of such a string opens: 0, or why it is refused.
-#[unsafe(no_mangle)]
-pub extern "C" fn beckethand_opening(bytes: &[u8], which: usize) -> u32
+pub fn beckethand_opening(bytes: &[u8], which: usize) -> u32
     ensures { result ≡ opening_on which bytes.now }
 {
     let answer = viewer::opening(bytes, which);
@@ -286,8 +268,7 @@ fn numbers_of(v: rules::View) -> rules::ViewNumbers
 }
 
 // What a viewer shows from a position, and its position after that.
-#[unsafe(no_mangle)]
-pub extern "C" fn beckethand_view(bytes: &[u8], which: usize, at: usize) -> rules::ViewNumbers
+pub fn beckethand_view(bytes: &[u8], which: usize, at: usize) -> rules::ViewNumbers
     ensures { result ≡ view_numbers (view_on which bytes.now at) }
 {
     let v = viewer::viewed(bytes, which, at);
@@ -295,8 +276,7 @@ pub extern "C" fn beckethand_view(bytes: &[u8], which: usize, at: usize) -> rule
 }
 
 // The writer of SAN values.
-#[unsafe(no_mangle)]
-pub extern "C" fn beckethand_write_san(
+pub fn beckethand_write_san(
     buffer: &mut [u8],
     texts: &[u8],
     lengths: &[usize],
@@ -309,8 +289,7 @@ pub extern "C" fn beckethand_write_san(
 }
 
 // The writer of reference records.
-#[unsafe(no_mangle)]
-pub extern "C" fn beckethand_write_records(
+pub fn beckethand_write_records(
     buffer: &mut [u8],
     texts: &[u8],
     lengths: &[usize],

@@ -10,7 +10,12 @@
 //
 // The stored output is held, line by line, to what the second program says of the same vectors and records
 // (tests/second/tests/stored.rs).
-use libc::STDOUT_FILENO;
+#![tactic(auto)]
+
+ghost use Rattle.std.specs.Io.{ReadsAtMost};
+
+use std::io;
+use std::io::Read;
 
 // Everything up to the first space.
 fn word(s: &[u8]) -> &[u8] {
@@ -53,47 +58,48 @@ fn holds(rule: u8, s: &[u8]) -> bool {
         b's' => names::service(s),
         b'h' => names::scheme(s),
         b'n' => dns::dns_id(s),
-        b'n' => dns::dns_matches(word(s), rest),
+        b'N' => dns::dns_matches(word(s), rest),
         b'r' => srv::srv_id(s),
-        b'r' => srv::srv_matches(word(s), word(rest), past_word(rest)),
+        b'R' => srv::srv_matches(word(s), word(rest), past_word(rest)),
         b'u' => uri::uri_id(s),
-        b'u' => uri::uri_matches(word(s), word(rest), past_word(rest)),
+        b'U' => uri::uri_matches(word(s), word(rest), past_word(rest)),
         b'x' => srv::restriction(s),
-        b'x' => srv_within(word(s), rest),
+        b'X' => srv_within(word(s), rest),
         b'y' => dns::dns_restriction(s),
-        b'y' => dns::dns_within(word(s), rest),
-        b'z' => dns_breaks(word(s), rest),
-        b't' => octets::same_text(word(s), rest),
+        b'Y' => dns::dns_within(word(s), rest),
+        b'Z' => dns_breaks(word(s), rest),
+        b'T' => octets::same_text(word(s), rest),
         _ => false,
     }
 }
 
-fn show_line(line: &[u8]) {
+fn show_line(rt: &impl Print, line: &[u8]) -> io::Result<()> {
     if line.len() < 2 {
-        return;
+        return Ok(());
     }
     let rule = line[0];
     let result = holds(rule, &line[2..]);
     if result {
-        io::write_all(STDOUT_FILENO, b"1 ");
+        rt.write_all(b"1 ")?;
     } else {
-        io::write_all(STDOUT_FILENO, b"0 ");
+        rt.write_all(b"0 ")?;
     }
-    io::write_all(STDOUT_FILENO, line);
-    io::write_all(STDOUT_FILENO, b"\n");
+    rt.write_all(line)?;
+    rt.write_all(b"\n")
 }
 
-fn show_lines(input: &[u8]) {
+fn show_lines(rt: &impl Print, input: &[u8]) -> io::Result<()> {
     let mut at = 0;
     while at < input.len() {
         let rest = &input[at..];
         let n = octets::find(rest, b'\n');
-        show_line(&rest[..n]);
+        show_line(rt, &rest[..n])?;
         if n == rest.len() {
-            return;
+            break;
         }
         at = at + n + 1;
     }
+    Ok(())
 }
 
 // A good record: the domain `a.b` behind the service's length, byte by byte as document 01 lays it out.
@@ -119,56 +125,73 @@ fn changed(b: u8) -> u8 {
     0
 }
 
-fn show_answer(references: &[u8]) {
+fn show_answer(rt: &impl Print, references: &[u8]) -> io::Result<()> {
     let shown = records::show(references, 0);
-    io::print_decimal(STDOUT_FILENO, shown.answer as u64);
+    print!(rt; "{}", shown.answer)
 }
 
 // The answer of the first n bytes.
-fn show_first(references: &[u8], n: usize) {
+fn show_first(rt: &impl Print, references: &[u8], n: usize) -> io::Result<()> {
     if n <= references.len() {
-        show_answer(&references[..n]);
+        show_answer(rt, &references[..n])?;
     }
+    Ok(())
 }
 
 // The answers of a record with each of its bytes changed in turn, 64 to a line.
-fn show_changes(good: [u8; 320]) {
+fn show_changes(rt: &impl Print, good: [u8; 320]) -> io::Result<()> {
     let mut i = 0;
     while i < 320 {
         let mut b = good;
         b[i] = changed(b[i]);
-        show_answer(&b);
+        show_answer(rt, &b)?;
         if i % 64 == 63 {
-            io::write_all(STDOUT_FILENO, b"\n");
+            rt.write_all(b"\n")?;
         }
         i += 1;
     }
+    Ok(())
 }
 
 // The answers of 0, 1, 16 and 17 records, and of one byte less and one byte more than 16.
-fn show_sizes(good: [u8; 320]) {
+fn show_sizes(rt: &impl Print, good: [u8; 320]) -> io::Result<()> {
     let mut many = [0u8; 5440];
     let mut i = 0;
     while i < 5440 {
         many[i] = good[i % 320];
         i += 1;
     }
-    show_first(&many, 0);
-    show_first(&many, 320);
-    show_first(&many, 5119);
-    show_first(&many, 5120);
-    show_first(&many, 5121);
-    show_first(&many, 5440);
-    io::write_all(STDOUT_FILENO, b"\n");
+    show_first(rt, &many, 0)?;
+    show_first(rt, &many, 320)?;
+    show_first(rt, &many, 5119)?;
+    show_first(rt, &many, 5120)?;
+    show_first(rt, &many, 5121)?;
+    show_first(rt, &many, 5440)?;
+    rt.write_all(b"\n")
 }
 
-fn main() {
+// Reads until the buffer is full or the input ends, and counts the bytes.
+fn read_full(input: &mut impl Read, buffer: &mut [u8]) -> io::Result<usize>
+    ensures { ReadsAtMost result buffer.new }
+{
+    let mut done = 0;
+    while done < buffer.len() {
+        let more = input.read(&mut buffer[done..])?;
+        if more == 0 {
+            break;
+        }
+        done += more;
+    }
+    Ok(done)
+}
+
+fn main(rt: HostRuntime) -> io::Result<()> {
     let mut input = [0u8; 16384];
-    let n = io::read_full(0, &mut input);
-    show_lines(&input[..n]);
-    show_changes(record(1, 0));
-    show_changes(record(2, 1));
-    show_changes(record(3, 1));
-    show_changes(record(4, 0));
-    show_sizes(record(1, 0));
+    let n = read_full(&mut rt.stdin(), &mut input)?;
+    show_lines(&rt, &input[..n])?;
+    show_changes(&rt, record(1, 0))?;
+    show_changes(&rt, record(2, 1))?;
+    show_changes(&rt, record(3, 1))?;
+    show_changes(&rt, record(4, 0))?;
+    show_sizes(&rt, record(1, 0))
 }
