@@ -188,7 +188,7 @@ pub extern "C" fn beckethand_list(
     ensures { (result ≡ listing_on which bytes.now (length table.old))
         × (table.new ≡ table_on which bytes.now table.old) }
 {
-    beckethand::beckethand_list(table, rules, bytes, which)
+    beckethand::beckethand_list(table, bytes, which)
 }
 
 // How a viewer of such a string opens: 0, or why it is refused.
