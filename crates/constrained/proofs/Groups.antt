@@ -17,8 +17,9 @@ use Rattle.rules.specs.Matching.{with_some, Form, subtrees_of}
 use Rattle.reading.specs.Reader.{numbered_by, raw, items}
 use Rattle.reading.specs.Strings.{flat, read_subtree, read_side, rising, read_sides, read_constraints}
 use Rattle.reading.specs.Answers.{then_some, when_some, and_parts, all_weaken}
-use Rattle.reading.specs.Codec.{items_c}
-use Rattle.reading.specs.Codecs.{good_filled, side_c}
+use Rattle.reading.proofs.Codec.{items_c}
+use Rattle.reading.specs.Codecs.{good_filled}
+use Rattle.reading.proofs.Codecs.{side_c}
 use Rattle.reading.specs.Groups.{members}
 use Rattle.der.proofs.Elements.{not_found}
 use Rattle.der.specs.Places.{element_at, found?}

@@ -8,7 +8,8 @@ use Rattle.rules.specs.San.{GeneralName}
 use Rattle.rules.specs.Subject.{Attribute}
 use Rattle.rules.specs.Seen.{Seen, san_input, subject_input, Sees, together, seen_records}
 use Rattle.rules.specs.Verdict.{outcome_of}
-use Rattle.reading.specs.Views.{seen_san, seen_subject, san_seen, subject_seen}
+use Rattle.reading.specs.Views.{seen_san, seen_subject}
+use Rattle.reading.proofs.Views.{san_seen, subject_seen}
 use Rattle.reading.specs.Calls.{Inputs, seen_issuers, outcome_on}
 use Rattle.demands.specs.Statements.{Strings, SeesEach, Demand1, Demand2, Demand3}
 use Rattle.demands.proofs.Strings.{issuers_seen}

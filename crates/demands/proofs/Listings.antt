@@ -15,7 +15,7 @@ use Rattle.rules.specs.Seen.{Seen, listed, Reads, Sees}
 use Rattle.rules.specs.Listing.{rows_seen, listed_of, table_after}
 use Rattle.rules.specs.declared.Row.{Row}
 use Rattle.rules.specs.declared.Listed.{Listed}
-use Rattle.reading.specs.OneReading.{san_reading, subject_reading, constraints_reading}
+use Rattle.reading.proofs.OneReading.{san_reading, subject_reading, constraints_reading}
 use Rattle.reading.specs.Views.{seen_san, seen_subject, seen_constraints}
 use Rattle.reading.specs.Calls.{refusal_of, seen_rows, listing_on, table_on}
 use Rattle.demands.specs.Statements.{Unreadable, CertificateString, string_of, listing_answers, Listings, OneReading}

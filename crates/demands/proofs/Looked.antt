@@ -11,7 +11,8 @@ use Rattle.rules.specs.Numbers.{records_limit}
 use Rattle.rules.specs.Records.{good_records, references_of}
 use Rattle.rules.specs.Seen.{Seen, too_long, unreadable, listed, Input, san_input, subject_input, constraints_input, Reads, Sees, seen_records}
 use Rattle.rules.specs.Verdict.{is_long, is_unreadable}
-use Rattle.reading.specs.Views.{seen_san, seen_subject, seen_constraints, sees_san, sees_subject, sees_constraints, san_seen, subject_seen, constraints_seen}
+use Rattle.reading.specs.Views.{seen_san, seen_subject, seen_constraints}
+use Rattle.reading.proofs.Views.{sees_san, sees_subject, sees_constraints, san_seen, subject_seen, constraints_seen}
 use Rattle.demands.specs.Statements.{Unreadable}
 
 -- what a function sees of each string is what the grammar says, and nothing else is

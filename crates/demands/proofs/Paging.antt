@@ -17,7 +17,8 @@ use Rattle.rules.specs.declared.Sight.{Sight}
 use Rattle.rules.specs.declared.Sight.TheVariants.{Name}
 use Rattle.rules.specs.declared.View.{View}
 use Rattle.reading.specs.Answers.{no_some}
-use Rattle.reading.specs.Laid.{Laid, next, row_here, row_later, row_none, end_or_row}
+use Rattle.reading.specs.Laid.{Laid, next}
+use Rattle.reading.proofs.Laid.{row_here, row_later, row_none, end_or_row}
 use Rattle.demands.specs.Viewing.{shows, end_at, FirstFrom, NoneFrom, nth_at, nth_sight}
 
 -- ---- the first row from a position

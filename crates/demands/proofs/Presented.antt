@@ -20,7 +20,7 @@ use Rattle.rules.specs.Subject.{Attribute, is_cn, cn_tag, subject_grammar}
 use Rattle.rules.specs.Matching.{Presented, presented_in, presented_to, matches, if_some, text_matches, tagged_text, srv_text, entry_text, cn_text, sole_cn, blocks_cn}
 use Rattle.rules.specs.declared.Row.{Row}
 use Rattle.reading.specs.Answers.{no_some}
-use Rattle.reading.specs.OneReading.{san_reading, subject_reading}
+use Rattle.reading.proofs.OneReading.{san_reading, subject_reading}
 use Rattle.demands.specs.Statements.{Names, MatchesAt, Kinds}
 use Rattle.demands.proofs.Places.{san_row, subject_row}
 use Rattle.demands.proofs.Texts.{tagged_is, srv_is, some_passes}

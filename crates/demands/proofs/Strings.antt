@@ -17,7 +17,8 @@ use Rattle.rules.specs.Seen.{Seen, too_long, unreadable, listed, constraints_inp
 use Rattle.rules.proofs.Cases.{by_cases, and_left, and_right}
 use Rattle.rules.proofs.Lengths.{cut_sizes}
 use Rattle.reading.specs.Answers.{no_some}
-use Rattle.reading.specs.Views.{seen_constraints, sees_constraints, constraints_seen}
+use Rattle.reading.specs.Views.{seen_constraints}
+use Rattle.reading.proofs.Views.{sees_constraints, constraints_seen}
 use Rattle.reading.specs.Calls.{Inputs, seen_all, seen_issuers}
 use Rattle.demands.specs.Statements.{Strings, SomeString, SeesEach, Unreadable}
 

@@ -25,7 +25,8 @@ use Rattle.reading.specs.Answers.{no_some, and_parts}
 use Rattle.reading.specs.Reader
 use Rattle.reading.specs.Strings
 use Rattle.reading.specs.Views
-use Rattle.reading.specs.Views.{seen_san, seen_subject, seen_constraints, sees_san, sees_subject, sees_constraints}
+use Rattle.reading.specs.Views.{seen_san, seen_subject, seen_constraints}
+use Rattle.reading.proofs.Views.{sees_san, sees_subject, sees_constraints}
 use Rattle.reading.specs.Calls.{Inputs, inputs, verdict_on, refusal_of, seen_rows, opening_on}
 use Rattle.demands.specs.Statements.{Unreadable}
 use Rattle.demands.proofs.Strings.{Within}

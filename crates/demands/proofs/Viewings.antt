@@ -13,7 +13,8 @@ use Rattle.rules.specs.Viewer.{row_or_end, view_of, opening_of, opening_at}
 use Rattle.rules.specs.declared.Row.{Row}
 use Rattle.rules.specs.declared.Sight.TheVariants.{Name}
 use Rattle.reading.specs.Calls.{seen_rows, opening_on, view_on}
-use Rattle.reading.specs.Laid.{Laid, rows_laid}
+use Rattle.reading.specs.Laid.{Laid}
+use Rattle.reading.proofs.Laid.{rows_laid}
 use Rattle.demands.specs.Statements.{CertificateString, string_of}
 use Rattle.demands.specs.Viewing.{opening_answers, shows, end_at, FirstFrom, NoneFrom, nth_at, nth_sight, Viewing}
 use Rattle.demands.proofs.Order.{Chosen, each_exactly}

@@ -12,7 +12,7 @@ use Rattle.rules.specs.Der.{length_bytes, good_tag}
 use Rattle.rules.specs.San.{good_value, sealed}
 use Rattle.reading.specs.Reader.{then, truncated, bad_length, Front, got, refused, then_f, at_end, Raw, raw, write_raw, read_element, tagged, alone, two}
 use Rattle.reading.specs.Strings.{read_value}
-use Rattle.reading.specs.Element.{element_sound, element_append}
+use Rattle.reading.proofs.Element.{element_sound, element_append}
 use Rattle.der.specs.Places.{place_element, element_at, tag_fits, tagged_at, value_at, found?}
 use Rattle.der.specs.declared.Element.{Element}
 use Rattle.der.specs.declared.Element.TheVariants.{Found, Truncated, BadLength, BadTag}

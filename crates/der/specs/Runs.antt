@@ -11,9 +11,9 @@ use Rattle.rules.specs.Bytes.{some?}
 use Rattle.rules.specs.Der.{element, header}
 use Rattle.reading.specs.Reader.{then, is_some, got, then_f, Raw, raw, write_raw, read_element, tagged, alone, items}
 use Rattle.reading.specs.Answers.{no_some, some_of, then_some, when_some, at_end_some}
-use Rattle.reading.specs.Element.{element_length, element_sound, element_complete}
+use Rattle.reading.proofs.Element.{element_length, element_sound, element_complete}
 use Rattle.reading.specs.Codec.{Codec}
-use Rattle.reading.specs.Runs.{items_end, items_open, items_next}
+use Rattle.reading.proofs.Runs.{items_end, items_open, items_next}
 use Rattle.reading.specs.Strings.{read_name, read_san}
 use Rattle.der.specs.Places.{place_element, element_at, found?}
 use Rattle.der.specs.Reads.{Read, found_read, refused_read}

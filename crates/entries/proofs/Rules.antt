@@ -16,7 +16,7 @@ use Rattle.rules.specs.San.{GeneralName, plain, other, srv_oid, text_tag, sealed
 use Rattle.reading.specs.Reader.{when, is_some, Raw, raw}
 use Rattle.reading.specs.Strings.{read_other, name_of, read_name}
 use Rattle.reading.specs.Answers.{then_some, is_true}
-use Rattle.reading.specs.Codecs.{other_c}
+use Rattle.reading.proofs.Codecs.{other_c}
 use Rattle.der.specs.Reads.{part_is}
 use Rattle.entries.specs.Entries.{text_tag_of, text_of, other_at, name_at, ascii_at, good_srv_at, good_name_at}
 use Rattle.entries.specs.Texts.{NamedAt, named, not_named}

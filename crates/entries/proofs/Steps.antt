@@ -13,7 +13,7 @@ use Rattle.rules.specs.San.{GeneralName}
 use Rattle.reading.specs.Reader.{is_some, Raw, raw, read_element, alone}
 use Rattle.reading.specs.Strings.{read_name, read_subtree}
 use Rattle.reading.specs.Answers.{then_some, when_some, then_f_some, at_end_some}
-use Rattle.reading.specs.Element.{element_complete}
+use Rattle.reading.proofs.Element.{element_complete}
 use Rattle.der.specs.Places.{element_at, found?}
 use Rattle.der.specs.Reads.{whole_element}
 use Rattle.der.specs.declared.Element.{Element}

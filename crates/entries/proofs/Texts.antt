@@ -12,8 +12,8 @@ use Rattle.rules.specs.Bytes.{same}
 use Rattle.rules.specs.San.{GeneralName, plain, other, srv_oid, tag_of}
 use Rattle.rules.specs.Matching.{tagged_text, srv_text}
 use Rattle.reading.specs.Answers.{no_some}
-use Rattle.reading.specs.Codec.{alone_c}
-use Rattle.reading.specs.Codecs.{name_c}
+use Rattle.reading.proofs.Codec.{alone_c}
+use Rattle.reading.proofs.Codecs.{name_c}
 use Rattle.entries.specs.Entries.{text_of, whole_at, place_text, text_place}
 use Rattle.reading.specs.Ends.{ends_element}
 use Rattle.entries.specs.Texts.{TextAt, name_ends, text_at}

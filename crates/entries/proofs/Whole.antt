@@ -19,9 +19,9 @@ use Rattle.rules.specs.Matching.{tagged_text, srv_text}
 use Rattle.reading.specs.Reader.{is_some, got, raw, read_element}
 use Rattle.reading.specs.Strings.{read_other}
 use Rattle.reading.specs.Answers.{some_of, and_parts}
-use Rattle.reading.specs.Element.{element_length, element_complete}
-use Rattle.reading.specs.Codec.{alone_c}
-use Rattle.reading.specs.Codecs.{other_c, name_c}
+use Rattle.reading.proofs.Element.{element_length, element_complete}
+use Rattle.reading.proofs.Codec.{alone_c}
+use Rattle.reading.proofs.Codecs.{other_c, name_c}
 use Rattle.der.specs.Places.{place_element, element_at, found?}
 use Rattle.der.specs.Reads.{found_read, part_of_part}
 use Rattle.der.specs.Runs.{start_of}

@@ -13,7 +13,8 @@ use Rattle.rules.specs.Seen.{Seen, too_long, unreadable, listed, Input, san_inpu
 use Rattle.rules.specs.Listing.{rows_seen}
 use Rattle.rules.specs.declared.Row.{Row}
 use Rattle.reading.specs.Strings.{read_san, read_subject, read_constraints}
-use Rattle.reading.specs.OneReading.{ReadsExactly, san_reading, subject_reading, constraints_reading}
+use Rattle.reading.specs.OneReading.{ReadsExactly}
+use Rattle.reading.proofs.OneReading.{san_reading, subject_reading, constraints_reading}
 use Rattle.reading.specs.Views.{absent, listed_or, seen_of, seen_san, seen_subject, seen_constraints}
 use Rattle.reading.specs.Calls.{refusal_of, seen_rows}
 use Rattle.strings.specs.Counts.{place_count}

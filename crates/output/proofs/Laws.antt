@@ -9,7 +9,7 @@ use lib.ListN.{length, get_or, take, drop, set, length-append, length-drop, take
 use lib.Seq.{paste, paste-zero, paste-suc, take_all, take_at, drop_at, drop-drop, length-take-le}
 use borrow.Author.Tests.{lt-ltb, le-ltb}
 use Rattle.rules.specs.Der.{length_bytes, element, header}
-use Rattle.reading.specs.Element as der
+use Rattle.reading.proofs.Element as der
 use Rattle.output.specs.Output.{pasted, Fits, Put, start, element_size}
 
 -- ---- sizes

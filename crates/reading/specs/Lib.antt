@@ -1,12 +1,10 @@
--- The laws of reading: readers of the three certificate strings as functions, and that each string has one reading.
--- The theorem is in OneReading.antt and Views.antt; the other files lead to it.
+-- Reading: readers of the three certificate strings as functions, and that each string has one reading.
+-- The theorem is in proofs/OneReading.antt and proofs/Views.antt; the other files lead to it.
 pub mod Reader
 pub mod Strings
 pub mod Answers
-pub mod Element
 pub mod Ends
 pub mod Codec
-pub mod Runs
 pub mod Groups
 pub mod Codecs
 pub mod OneReading

@@ -1,2 +1,2 @@
-// The laws of reading, all in specs/: readers as functions, and that each reads exactly what its grammar writes.
+// The laws of reading, all in specs/ and proofs/: readers as functions, and that each reads exactly what its grammar writes.
 #![tactic(auto)]

@@ -18,9 +18,9 @@ use Rattle.rules.specs.declared.Row.{Row}
 use Rattle.reading.specs.Reader.{also, Raw, raw, write_raw, read_element, tagged, alone, items}
 use Rattle.reading.specs.Strings.{flat, number_from, read_attribute, in_order, read_set, read_sets, read_subject, name_of, read_name, read_subtree, read_side, rising, read_sides, read_constraints}
 use Rattle.reading.specs.Answers.{no_some, then_some, when_some, then_f_some, at_end_some, and_parts, is_true}
-use Rattle.reading.specs.Runs.{items_end, items_some}
-use Rattle.reading.specs.Codec.{also_c, items_c}
-use Rattle.reading.specs.Codecs.{attribute_c, set_c, subtree_c, side_c, groups_numbered, groups_sides}
+use Rattle.reading.proofs.Runs.{items_end, items_some}
+use Rattle.reading.proofs.Codec.{also_c, items_c}
+use Rattle.reading.proofs.Codecs.{attribute_c, set_c, subtree_c, side_c, groups_numbered, groups_sides}
 use Rattle.der.specs.Places.{element_at, tag_fits, tagged_at}
 use Rattle.der.specs.Reads.{Read}
 use Rattle.der.specs.declared.Element.TheVariants.{Found}

@@ -15,10 +15,10 @@ use Rattle.rules.specs.declared.Row.{Row}
 use Rattle.reading.specs.Reader.{also, Raw, raw, write_raw, tagged, alone, items}
 use Rattle.reading.specs.Strings.{name_of, read_name, read_san}
 use Rattle.reading.specs.Answers.{no_some, then_some, when_some}
-use Rattle.reading.specs.Element.{element_length}
-use Rattle.reading.specs.Runs.{items_end, items_open, items_next}
-use Rattle.reading.specs.Codec.{items_c}
-use Rattle.reading.specs.Codecs.{name_c}
+use Rattle.reading.proofs.Element.{element_length}
+use Rattle.reading.proofs.Runs.{items_end, items_open, items_next}
+use Rattle.reading.proofs.Codec.{items_c}
+use Rattle.reading.proofs.Codecs.{name_c}
 use Rattle.der.specs.Places.{element_at, tagged_at, found?}
 use Rattle.der.specs.Reads.{Read, found_read, refused_read, whole_element, tagged_read, alone_none, alone_open, alone_found}
 use Rattle.der.specs.declared.Element.{Element}

@@ -17,9 +17,9 @@ use Rattle.rules.specs.Der.{Member}
 use Rattle.rules.specs.Subject.{Attribute, write_attribute}
 use Rattle.reading.specs.Reader.{then, when, is_some, as_is, also, Raw, raw, write_raw, tagged, alone, items}
 use Rattle.reading.specs.Strings.{read_name, read_san, flat, number_from, read_attribute, in_order, read_set, read_sets, read_subject, read_subtree}
-use Rattle.reading.specs.Runs.{items_end, items_open, items_some, items_size}
+use Rattle.reading.proofs.Runs.{items_end, items_open, items_some, items_size}
 use Rattle.reading.specs.Answers.{some_of, then_some, when_some}
-use Rattle.reading.specs.Codecs.{attribute_c}
+use Rattle.reading.proofs.Codecs.{attribute_c}
 use Rattle.der.specs.Places.{element_at, tagged_at, found?}
 use Rattle.der.specs.Reads.{Read, found_read, fits_refused, whole_element, tagged_is, tagged_read, alone_none, alone_open, alone_found}
 use Rattle.der.specs.declared.Element.{Element}

@@ -16,8 +16,8 @@ use Rattle.rules.specs.Constraints.{good_subtree}
 use Rattle.reading.specs.Reader.{then, when, as_is, also, raw, items}
 use Rattle.reading.specs.Strings.{flat, read_subtree, read_side, rising, read_sides, read_constraints}
 use Rattle.reading.specs.Answers.{and_parts}
-use Rattle.reading.specs.Runs.{items_end, items_some, items_size}
-use Rattle.reading.specs.Codecs.{side_c}
+use Rattle.reading.proofs.Runs.{items_end, items_some, items_size}
+use Rattle.reading.proofs.Codecs.{side_c}
 use Rattle.der.specs.Places.{element_at, tagged_at, found?}
 use Rattle.der.specs.Reads.{Read}
 use Rattle.der.specs.declared.Element.{Element}

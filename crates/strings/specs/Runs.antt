@@ -6,7 +6,7 @@ use Rattle.std.proofs.Math.Option.{Option, none, some}
 use native.Mathlib.Omega.{arith}
 use Rattle.std.proofs.Math.Seq.{slice, slice_empty, length-slice}
 use Rattle.reading.specs.Reader.{then, Raw, raw, items}
-use Rattle.reading.specs.Runs.{items_end, items_open, items_next}
+use Rattle.reading.proofs.Runs.{items_end, items_open, items_next}
 use Rattle.der.specs.Places.{element_at, found?}
 use Rattle.der.specs.Reads.{Read, refused_read}
 use Rattle.strings.specs.Counts.{tally, run_on, any_fits, nothing, total}

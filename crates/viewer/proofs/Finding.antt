@@ -11,7 +11,7 @@ use Rattle.rules.specs.declared.Row.{Row}
 use Rattle.rules.specs.declared.Sight.TheVariants.{Name, End}
 use Rattle.rules.specs.declared.View.{View}
 use Rattle.reading.specs.Calls.{refusal_of, seen_rows, opening_on, view_on}
-use Rattle.reading.specs.Laid.{row_here, row_later, row_none, row_within, end_or_row, rows_laid}
+use Rattle.reading.proofs.Laid.{row_here, row_later, row_none, row_within, end_or_row, rows_laid}
 use Rattle.steps.specs.Walks.{rows_by}
 use Rattle.steps.specs.declared.Cursor.{Cursor}
 use Rattle.steps.specs.declared.Step.{Step}

@@ -8,7 +8,7 @@ use mathlib.Core.List.{List, [], ◌∷◌}
 use Rattle.rules.specs.Bytes.{some?}
 use Rattle.reading.specs.Reader.{then, Front, got, refused, then_f, Raw, read_element, as_is, also, read_items, items}
 use Rattle.reading.specs.Answers.{no_some, then_some, then_f_some}
-use Rattle.reading.specs.Element.{element_sound, element_append}
+use Rattle.reading.proofs.Element.{element_sound, element_append}
 
 -- what follows an element is shorter
 shorter : (b : List ℕ) {x : Raw} {r : List ℕ} → read_element b ≡ got x r → length r < length b
