@@ -29,8 +29,7 @@ loop-at-smaller-then-text-next c = search (rules, steps, names, laws)
 
 pub loop-at-preserved-then-text-next : goal.loop-at-preserved-then-text-next
 loop-at-preserved-then-text-next c =
-    let inv = c.loop-at.invariant in
-    (
+    let inv = c.loop-at.invariant in (
       search (rules, steps, names, laws),
       search (rules, steps, names, laws),
       noted_text_lem _ _ _ _ _ inv.2 inv.1 c.loop-at-test.true _ c.element_end-next.ensures _ c.tagged_text-text.ensures c.if-text-next.true _ _

@@ -13,9 +13,9 @@ returns-then-not-same c = search (rules, laws)
 pub loop-k-preserved : goal.loop-k-preserved
 loop-k-preserved c =
     elim c.if-x-y.branch [
-      then-x-y+else-not-same w ↦
-        (omega arith, few_next _ _ _ _ (omega arith) (omega arith) _ c.loop-k.invariant.1 (omega arith) _ w.same_letter-same.ensures (rw w.if-not-same.false))
-    | else-x-y w ↦ search (rules, laws)
+      | then-x-y+else-not-same w ↦
+          (omega arith, few_next _ _ _ _ (omega arith) (omega arith) _ c.loop-k.invariant.1 (omega arith) _ w.same_letter-same.ensures (rw w.if-not-same.false))
+      | else-x-y w ↦ search (rules, laws)
     ]
 
 pub returns : goal.returns

@@ -1,4 +1,4 @@
-use Rattle.std.proofs.Common.{rules, refl, arith, length-set}
+use Rattle.std.proofs.Common.{refl, arith, length-set}
 use Rattle.output.specs.Output.{Fits}
 use Rattle.output.proofs.Laws as laws
 use Rattle.output.proofs.put_text.Goals as goal

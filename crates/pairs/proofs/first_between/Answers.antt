@@ -43,8 +43,8 @@ loop-at-preserved c = search (rules, pair_laws, steps, names)
 pub pairs-preserved : goal.pairs-preserved
 pairs-preserved c =
     elim c.if-kind-eq-CN.branch [
-      then-kind-eq-CN+in_default w ↦ search (rules, pair_laws, steps, names)
-    | else-kind-eq-CN+else-loop-at-test w ↦ search (rules, pair_laws, steps, names)
+      | then-kind-eq-CN+in_default w ↦ search (rules, pair_laws, steps, names)
+      | else-kind-eq-CN+else-loop-at-test w ↦ search (rules, pair_laws, steps, names)
     ]
 
 pub returns-after-pairs-clause-value : goal.returns-after-pairs-clause-value
