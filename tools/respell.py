@@ -4,7 +4,7 @@
 usage: python3 tools/respell.py [FOLDER]     once, right after the kit's port.py, at the top of the repository
 
 Names that begin with a capital (types, facts, modules) stay, and so do the library's own names, in which a dash joins two words.
-Strings, numbers and the words of comments stay: of a comment only names are turned that the code has too, those with a dash only in
+Strings, bytes as `b'N'`, numbers and the words of comments stay: of a comment only names are turned that the code has too, those with a dash only in
 backquotes. A lemma whose new name would be a definition's, or another lemma's, gets `_lem`.
 """
 import glob
@@ -36,7 +36,7 @@ service-of set-laws set-presents shown-at side-at srv-kind srv-text step-at stri
 sums-to tagged-text text-length two-labels uri-kind view-at wild-matches with-place witness-place
 """.split())
 NAME = re.compile(r"(?<![\w'?-])[a-z_][\w'?]*(?:-[\w'?]+)*")
-STRING = re.compile(r'"(?:[^"\\]|\\.)*"')
+STRING = re.compile(r'"(?:[^"\\]|\\.)*"|\bb\'(?:[^\'\\]|\\.)\'')
 
 
 def snake(name):
