@@ -185,7 +185,13 @@ fn verdict_of(san: &[u8], subject: &[u8], constraints: &[u8], references: &[u8])
 }
 
 // Writes what is judged; the exit status is that of the verdict on these four strings.
-pub fn judge(rt: &impl Print, san: &[u8], subject: &[u8], constraints: &[u8], references: &[u8]) -> u32
+pub fn judge(
+    rt: &impl Print,
+    san: &[u8],
+    subject: &[u8],
+    constraints: &[u8],
+    references: &[u8],
+) -> u32
     ensures { result ≡ status_of (verdict_on (inputs san.now subject.now constraints.now (some (one_length constraints.now)) references.now)) }
 {
     let v = verdict_of(san, subject, constraints, references);
