@@ -10,16 +10,16 @@ use native.Mathlib.Decide.{dec_lt}
 use lib.Dec.{leb}
 use lib.ListN.{length, get_elem?}
 use borrow.Author.Tests.{leb-true, leb-false}
+use Rattle.std.specs.Prelude as std
+use Rattle.std.specs.Prelude.{Some}
 use Rattle.rules.specs.Seen.{listed}
 use Rattle.rules.specs.Viewer.{row_from, row_or_end, view_of, opening_at}
 use Rattle.rules.specs.declared.Row.{Row}
-use Rattle.rules.specs.declared.Sight.{Sight}
-use Rattle.rules.specs.declared.Sight.TheVariants.{Name}
 use Rattle.rules.specs.declared.View.{View}
 use Rattle.reading.specs.Answers.{no_some}
 use Rattle.reading.specs.Laid.{Laid, next}
 use Rattle.reading.proofs.Laid.{row_here, row_later, row_none, end_or_row}
-use Rattle.demands.specs.Viewing.{shows, end_at, FirstFrom, NoneFrom, nth_at, nth_sight}
+use Rattle.demands.specs.Viewing.{shows, end_at, FirstFrom, NoneFrom, nth_at, nth_row}
 
 -- ---- the first row from a position
 
@@ -78,12 +78,12 @@ module _ (rows : List Row) where
     where
       go : (o : Option Row) → row_from at rows ≡ o → view_of (listed rows) at ≡ shows r ↔ FirstFrom at rows r
       go none f = (
-        λ e. absurd (end_or_row (ap (λ v. v.sight) (sym (view_end at f) ∙ e))),
+        λ e. absurd (end_or_row (ap (λ v. v.row) (sym (view_end at f) ∙ e))),
         λ k. let z = none_from at rows f k.index r k.stands in let y = k.past in absurd (omega arith),
       )
       go (some q) f = (
         λ e.
-            let v : Name q ≡ Name r = ap (λ v. v.sight) (sym (view_row at q f) ∙ e) in
+            let v : Some q ≡ Some r = ap (λ v. v.row) (sym (view_row at q f) ∙ e) in
             let same : q ≡ r = cc in
             first_from at rows r (f ∙ ap {B = Option Row} some same),
         λ k. view_row at q f ∙ ap shows (only_first at rows q r (first_from at rows q f) k),
@@ -95,7 +95,7 @@ module _ (rows : List Row) where
       go : (o : Option Row) → row_from at rows ≡ o → view_of (listed rows) at ≡ end_at at ↔ NoneFrom at rows
       go none f = (λ e. none_from at rows f, λ k. view_end at f)
       go (some q) f = (
-        λ e. absurd (end_or_row (ap (λ v. v.sight) (sym e ∙ view_row at q f))),
+        λ e. absurd (end_or_row (ap (λ v. v.row) (sym e ∙ view_row at q f))),
         λ k.
             let w = first_from at rows q f in
             let z = k w.index q w.stands in
@@ -123,13 +123,13 @@ module _ (rows : List Row) where
   last_next at r last h k e q l = e q (omega arith) ∙ row_later q r last (omega arith)
 
   -- the i-th step shows the i-th of the last rows
-  steps_show : (last : List Row) (at end : ℕ) → Laid at end last → Last at last → (i : ℕ) (r : Row) → get_elem? last i ≡ some r → nth_sight step at i ≡ Name r
-  unfolding nth_sight nth_at
+  steps_show : (last : List Row) (at end : ℕ) → Laid at end last → Last at last → (i : ℕ) (r : Row) → get_elem? last i ≡ some r → nth_row step at i ≡ Some r
+  unfolding nth_row nth_at
   steps_show [] at end l e i r g = absurd (no_some g)
   steps_show (p ∷ last) at end (next h k l) e zero r g =
-      ap (λ x. x.sight) (step_here at p last h e) ∙ ap {B = Sight} Name (some-injective p r g)
+      ap (λ x. x.row) (step_here at p last h e) ∙ ap {B = std.Option Row} Some (some-injective p r g)
   steps_show (p ∷ last) at end (next h k l) e (suc i) r g =
-      ap (λ x. (step (nth_at step x.at i)).sight) (step_here at p last h e)
+      ap (λ x. (step (nth_at step x.at i)).row) (step_here at p last h e)
       ∙ steps_show last (p.start + p.length) end l (last_next at p last h k e) i r g
 
   -- a viewer stands at the end after i steps
@@ -150,7 +150,7 @@ module _ (rows : List Row) where
       (steps_end last (p.start + p.length) end l (last_next at p last h k e) i (omega arith))
 
   -- "From an opening the steps show exactly the listing's rows, in order, then the end at every further step."
-  pub pages : {end : ℕ} → Laid opening_at end rows → (i : ℕ) (r : Row) → get_elem? rows i ≡ some r → nth_sight step opening_at i ≡ Name r
+  pub pages : {end : ℕ} → Laid opening_at end rows → (i : ℕ) (r : Row) → get_elem? rows i ≡ some r → nth_row step opening_at i ≡ Some r
   pages {end} l = steps_show rows opening_at end l (λ q h. refl)
 
   pub pages_end : {end : ℕ} → Laid opening_at end rows → (i : ℕ) → length rows ≤ i → EndAfter i opening_at

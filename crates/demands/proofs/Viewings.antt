@@ -3,6 +3,7 @@ use Prim.Native.Nat.{ℕ, ◌≤◌, ◌<◌}
 use mathlib.Core.Path.{◌≡◌, refl, sym, ap, subst, ◌∙◌}
 use mathlib.Core.Logic.{◌↔◌, ◌≢◌, inl, inr}
 use mathlib.Core.Option.{some}
+use Rattle.std.specs.Prelude.{Some}
 use mathlib.Core.List.{List, []}
 use native.Mathlib.Omega.{arith}
 use lib.ListN.{length, get_elem?}
@@ -11,12 +12,11 @@ use Rattle.rules.specs.Seen.{Seen, too_long, unreadable, listed, Sees}
 use Rattle.rules.specs.Listing.{rows_seen}
 use Rattle.rules.specs.Viewer.{row_or_end, view_of, opening_of, opening_at}
 use Rattle.rules.specs.declared.Row.{Row}
-use Rattle.rules.specs.declared.Sight.TheVariants.{Name}
 use Rattle.reading.specs.Calls.{seen_rows, opening_on, view_on}
 use Rattle.reading.specs.Laid.{Laid}
 use Rattle.reading.proofs.Laid.{rows_laid}
 use Rattle.demands.specs.Statements.{CertificateString, string_of}
-use Rattle.demands.specs.Viewing.{opening_answers, shows, end_at, FirstFrom, NoneFrom, nth_at, nth_sight, Viewing}
+use Rattle.demands.specs.Viewing.{opening_answers, shows, end_at, FirstFrom, NoneFrom, nth_at, nth_row, Viewing}
 use Rattle.demands.proofs.Order.{Chosen, each_exactly}
 use Rattle.demands.proofs.Listings.{Lists, lists, seen_rows_lem}
 use Rattle.demands.proofs.Paging.{shows_first, shows_none, pages, pages_end}
@@ -61,8 +61,8 @@ module _ (which : ℕ) (S : CertificateString) (L : Lists which S) where
     none_left : (at : ℕ) → view_on which b at ≡ end_at at ↔ NoneFrom at (S.input.grammar.rows l)
     none_left at = subst (λ x. view_of x at ≡ end_at at ↔ NoneFrom at (S.input.grammar.rows l)) seen_is (shows_none (S.input.grammar.rows l) at)
 
-    in_order : (i : ℕ) (r : Row) → get_elem? (S.input.grammar.rows l) i ≡ some r → nth_sight (view_on which b) opening_at i ≡ Name r
-    in_order i r g = subst (λ x. nth_sight (view_of x) opening_at i ≡ Name r) seen_is (pages (S.input.grammar.rows l) laid i r g)
+    in_order : (i : ℕ) (r : Row) → get_elem? (S.input.grammar.rows l) i ≡ some r → nth_row (view_on which b) opening_at i ≡ Some r
+    in_order i r g = subst (λ x. nth_row (view_of x) opening_at i ≡ Some r) seen_is (pages (S.input.grammar.rows l) laid i r g)
 
     then_end : (i : ℕ) → length l ≤ i → view_on which b (nth_at (view_on which b) opening_at i) ≡ end_at (nth_at (view_on which b) opening_at i)
     then_end i h =

@@ -1,13 +1,11 @@
 -- Request 3/13, the viewer, as statements about the very names that its contracts cite: `opening_on` and `view_on`
 -- (crates/reading/specs/Calls.antt). Each field stands under the sentence that it says; proofs/Viewings.antt proves them all.
-use Rattle.std.specs.Prelude.{ℕ, zero, suc, ◌+◌, ◌≤◌, ◌<◌, ◌≡◌, ◌↔◌, ◌≢◌, List, [], ◌∷◌, length, T}
+use Rattle.std.specs.Prelude.{ℕ, zero, suc, ◌+◌, ◌≤◌, ◌<◌, ◌≡◌, ◌↔◌, ◌≢◌, List, [], ◌∷◌, length, T, Option, Some, None}
 use Rattle.std.proofs.Math.Option.{some}
 use Rattle.std.proofs.Math.ListN.{get_elem?}
 use Rattle.rules.specs.Seen.{listed, Sees}
 use Rattle.rules.specs.Viewer.{opening_at}
 use Rattle.rules.specs.declared.Row.{Row}
-use Rattle.rules.specs.declared.Sight.{Sight}
-use Rattle.rules.specs.declared.Sight.TheVariants.{Name, End}
 use Rattle.rules.specs.declared.View.{View}
 use Rattle.reading.specs.Calls.{opening_on, view_on}
 use Rattle.demands.specs.Statements.{CertificateString, Answer, when, EachExactly, Unreadable}
@@ -19,11 +17,11 @@ opening_answers S bytes =
 
 -- a step shows this row. "After a row the position stands just past its element."
 abbrev pub shows : Row → View
-shows r = record { sight = Name r; at = r.start + r.length }
+shows r = record { row = Some r; at = r.start + r.length }
 
 -- "it says that it's at the end"; "a step at the end doesn't move it"
 abbrev pub end_at : ℕ → View
-end_at at = record { sight = End; at = at }
+end_at at = record { row = None; at = at }
 
 -- r is "the first row .. that starts at or past the position"
 pub record FirstFrom (at : ℕ) (rows : List Row) (r : Row) : Type 0 where
@@ -42,8 +40,8 @@ nth_at step at zero = at
 nth_at step at (suc n) = nth_at step (step at).at n
 
 -- what the n-th step shows, counted from 0
-unfoldable pub nth_sight : (ℕ → View) → ℕ → ℕ → Sight
-nth_sight step at n = (step (nth_at step at n)).sight
+unfoldable pub nth_row : (ℕ → View) → ℕ → ℕ → Option Row
+nth_row step at n = (step (nth_at step at n)).row
 
 -- the viewer of the string S, of which the number is `which`
 pub record Viewing (which : ℕ) (S : CertificateString) : Type 0 where
@@ -61,7 +59,7 @@ pub record Viewing (which : ℕ) (S : CertificateString) : Type 0 where
   -- "From an opening the steps show exactly the listing's rows, in order,"
   pub in_order :
       (bytes : List ℕ) (list : List S.Name) → Sees S.input bytes (listed list)
-      → (i : ℕ) (r : Row) → get_elem? (S.input.grammar.rows list) i ≡ some r → nth_sight (view_on which bytes) opening_at i ≡ Name r
+      → (i : ℕ) (r : Row) → get_elem? (S.input.grammar.rows list) i ≡ some r → nth_row (view_on which bytes) opening_at i ≡ Some r
   -- "then the end at every further step"
   pub then_end :
       (bytes : List ℕ) (list : List S.Name) → Sees S.input bytes (listed list)

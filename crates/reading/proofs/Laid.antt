@@ -1,5 +1,6 @@
 -- The law of a listing's rows, `Laid`, proved for the three grammars and for what is seen of a string; so is the row that a viewer shows.
-use Rattle.std.specs.Prelude.{ℕ, suc, ◌+◌, ◌≤◌, ◌<◌, refl, Bool, true, false, eqb, leb}
+use Rattle.std.specs.Prelude.{ℕ, suc, ◌+◌, ◌≤◌, ◌<◌, refl, Bool, true, false, eqb, leb, Some, None}
+use Rattle.std.specs.Prelude as std
 use Rattle.std.proofs.Math.Path.{◌≡◌, ap, subst}
 use Rattle.std.proofs.Common.{sym, ◌∙◌, inl, inr, arith, length-append, le-leb, leb-true, leb-false}
 use Rattle.std.proofs.Math.Option.{none, some, some-injective}
@@ -14,7 +15,6 @@ use Rattle.rules.specs.Seen.{Seen, too_long, unreadable, listed, Input, san_inpu
 use Rattle.rules.specs.Listing.{rows_seen}
 use Rattle.rules.specs.Viewer.{row_from}
 use Rattle.rules.specs.declared.Row.{Row}
-use Rattle.rules.specs.declared.Sight.TheVariants.{Name, End}
 use Rattle.reading.specs.Answers.{no_some}
 use Rattle.reading.proofs.Element.{element_length}
 use Rattle.reading.specs.Views.{seen_san, seen_subject, seen_constraints}
@@ -58,7 +58,7 @@ row_within {at} {end} (p ∷ rows) (next h k l) q r e = go (row_within {at = p.s
     go rest false f = rest (sym (row_later q p rows (leb-false q p.start f)) ∙ e)
 
 -- an end shows no row
-pub end_or_row : {r : Row} → End ≡ Name r → ⊥
+pub end_or_row : {r : Row} → ◌≡◌ {A = std.Option Row} None (Some r) → ⊥
 end_or_row e = let z : ◌≡◌ {A = ℕ} 0 1 = cc in omega arith
 
 -- ---- names side by side

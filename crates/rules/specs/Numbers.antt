@@ -1,5 +1,10 @@
 -- The numbers that the kiosk sees, each named once.
-use Rattle.std.specs.Prelude.{ℕ}
+use Rattle.std.specs.Prelude.{ℕ, cond, eqb, Result, Ok, Err}
+use Rattle.rules.specs.declared.Refusal.{Refusal}
+use Rattle.rules.specs.declared.Refusal.TheVariants.{InputTooLong, RecordsUnreadable, SanUnreadable, SubjectUnreadable, ConstraintsUnreadable}
+use Rattle.rules.specs.declared.Kind.{Kind}
+use Rattle.rules.specs.declared.Kind.TheVariants.{Dns, Srv, Uri, Cn}
+use Rattle.rules.specs.declared.UnknownKind.{UnknownKind}
 
 -- "A verdict is five numbers: answer, reference index, presented index, start, length", and since 6/13 the issuer's index. The answers:
 abbrev pub match : ℕ
@@ -26,6 +31,14 @@ records_unreadable = 6
 
 abbrev pub input_too_long : ℕ
 input_too_long = 7
+
+-- the answer of each refusal
+abbrev pub answer_of : Refusal → ℕ
+answer_of InputTooLong = input_too_long
+answer_of RecordsUnreadable = records_unreadable
+answer_of SanUnreadable = san_unreadable
+answer_of SubjectUnreadable = subject_unreadable
+answer_of ConstraintsUnreadable = constraints_unreadable
 
 -- the 0 of the listing, of the record reader and of the writers
 abbrev pub accepted : ℕ
@@ -101,3 +114,15 @@ uri_kind = 3
 
 abbrev pub cn_kind : ℕ
 cn_kind = 4
+
+abbrev pub kind_number : Kind → ℕ
+kind_number Dns = dns_kind
+kind_number Srv = srv_kind
+kind_number Uri = uri_kind
+kind_number Cn = cn_kind
+
+-- the kind that a number is of, if it is one's
+abbrev pub kind_of : ℕ → Result Kind UnknownKind
+kind_of n =
+    cond (eqb n dns_kind) (Ok Dns)
+    (cond (eqb n srv_kind) (Ok Srv) (cond (eqb n uri_kind) (Ok Uri) (cond (eqb n cn_kind) (Ok Cn) (Err (record { 0 = n })))))

@@ -1,12 +1,11 @@
 -- The viewer: how a string opens, and what each step shows from a position. Request 3/13.
-use Rattle.std.specs.Prelude.{ℕ, ◌+◌, List, leb}
+use Rattle.std.specs.Prelude.{ℕ, ◌+◌, List, leb, Some, None}
+use Rattle.std.specs.Prelude as std
 use Rattle.std.proofs.Math.Option.{Option, none, some}
 use Rattle.rules.specs.Bytes.{find}
 use Rattle.rules.specs.Numbers.{accepted, input_too_long}
 use Rattle.rules.specs.Seen.{Seen, too_long, unreadable, listed}
 use Rattle.rules.specs.declared.Row.{Row}
-use Rattle.rules.specs.declared.Sight.{Sight}
-use Rattle.rules.specs.declared.Sight.TheVariants.{Name, End}
 use Rattle.rules.specs.declared.View.{View}
 use Rattle.rules.specs.declared.ViewNumbers.{ViewNumbers}
 
@@ -19,8 +18,8 @@ row_from at = find (λ r. leb at r.start)
 -- "After a row the position stands just past its element." "if there is none, .. it says that it's at the end"; "a step at the
 -- end doesn't move it"
 unfoldable pub row_or_end : Option Row → ℕ → View
-row_or_end (some r) at = record { sight = Name r; at = r.start + r.length }
-row_or_end none at = record { sight = End; at = at }
+row_or_end (some r) at = record { row = Some r; at = r.start + r.length }
+row_or_end none at = record { row = None; at = at }
 
 -- "if there is none, or the listing refuses the bytes, it says that it's at the end"
 unfoldable pub view_of : Seen Row → ℕ → View
@@ -44,9 +43,9 @@ opening_at = 0
 -- ---- a step's six numbers
 
 -- 1 and the row's four, or 0 and four zeros; then the position
-unfoldable pub numbers_at : Sight → ℕ → ViewNumbers
-numbers_at (Name r) at = record { shown = 1; kind = r.kind; start = r.start; length = r.length; group = r.group; at = at }
-numbers_at End at = record { shown = 0; kind = 0; start = 0; length = 0; group = 0; at = at }
+unfoldable pub numbers_at : std.Option Row → ℕ → ViewNumbers
+numbers_at (Some r) at = record { shown = 1; kind = r.kind; start = r.start; length = r.length; group = r.group; at = at }
+numbers_at None at = record { shown = 0; kind = 0; start = 0; length = 0; group = 0; at = at }
 
 unfoldable pub view_numbers : View → ViewNumbers
-view_numbers v = numbers_at v.sight v.at
+view_numbers v = numbers_at v.row v.at

@@ -1,8 +1,11 @@
 // The types that all crates share: the numbers that a caller sees, and where a witness lies.
-// What is right is said in specs/, in document 01's words; this file declares no function. Its constants are the numbers of
-// specs/Numbers.antt, for code: a proof of equality with a definition fails where the two differ.
+// What is right is said in specs/, in document 01's words. The constants of this file are the numbers of specs/Numbers.antt, for code: a
+// proof of equality with a definition fails where the two differ. Its only functions turn a refusal into its number, and a number into a kind.
 
 #![tactic(auto)]
+
+ghost use Rattle.std.specs.Prelude.{◌≡◌};
+ghost use Rattle.rules.specs.Numbers.{answer_of, kind_of};
 
 // The answers.
 pub const MATCH: usize = 0;
@@ -61,7 +64,36 @@ pub const DOMAIN_AT: usize = 67;
 
 pub const DOMAIN_SIZE: usize = 253;
 
-// The kinds of references.
+// A kind of references. Its number in a record is `kind_number` of specs/Numbers.antt.
+#[derive(Clone, Copy, Debug, PartialEq, Eq)]
+pub enum Kind {
+    Dns,
+    Srv,
+    Uri,
+    Cn,
+}
+
+// A number that is no kind's.
+#[derive(Clone, Copy, Debug, PartialEq, Eq)]
+pub struct UnknownKind(pub u8);
+
+impl TryFrom<u8> for Kind {
+    type Error = UnknownKind;
+
+    ghost try_from_gives = { λ number kind. kind ≡ kind_of number };
+
+    fn try_from(number: u8) -> Result<Kind, UnknownKind> {
+        match number {
+            DNS => Ok(Kind::Dns),
+            SRV => Ok(Kind::Srv),
+            URI => Ok(Kind::Uri),
+            CN => Ok(Kind::Cn),
+            _ => Err(UnknownKind(number)),
+        }
+    }
+}
+
+// The kinds of references, as a record numbers them.
 pub const DNS: u8 = 1;
 
 pub const SRV: u8 = 2;
@@ -91,17 +123,10 @@ pub struct Listed {
     pub count: usize,
 }
 
-// What a viewer shows: a name's row, or that it is at the end.
-#[derive(Clone, Copy)]
-pub enum Sight {
-    Name(Row),
-    End,
-}
-
-// A step of a viewer: what it shows, and the position after it.
+// A step of a viewer: the row of a name, or none at the end; and the position after it.
 #[derive(Clone, Copy)]
 pub struct View {
-    pub sight: Sight,
+    pub row: Option<Row>,
     pub at: usize,
 }
 
@@ -184,11 +209,40 @@ pub struct Breach {
     pub presented: usize,
 }
 
+// Why a verdict is refused, and a listing or a viewer of one string. The number of each case is `answer_of` of specs/Numbers.antt.
+#[derive(Clone, Copy, Debug, PartialEq, Eq)]
+pub enum Refusal {
+    // Answer 7.
+    InputTooLong,
+    // Answer 6.
+    RecordsUnreadable,
+    // Answer 3.
+    SanUnreadable,
+    // Answer 4.
+    SubjectUnreadable,
+    // Answer 5.
+    ConstraintsUnreadable,
+}
+
+impl From<Refusal> for usize {
+    ghost from_gives = { λ refusal answer. answer ≡ answer_of refusal };
+
+    fn from(refusal: Refusal) -> usize {
+        match refusal {
+            Refusal::InputTooLong => INPUT_TOO_LONG,
+            Refusal::RecordsUnreadable => RECORDS_UNREADABLE,
+            Refusal::SanUnreadable => SAN_UNREADABLE,
+            Refusal::SubjectUnreadable => SUBJECT_UNREADABLE,
+            Refusal::ConstraintsUnreadable => CONSTRAINTS_UNREADABLE,
+        }
+    }
+}
+
 // How a verdict ends. The numbers of each case are `numbers_of` of specs/Verdict.antt.
 #[derive(Clone, Copy)]
 pub enum Outcome {
     // Answers 7, 6, 3, 4 and 5: an input is too long or unreadable.
-    Refused(usize),
+    Refused(Refusal),
     // Answer 2: the first breach of the constraints.
     Broken(Breach),
     // Answer 0.
