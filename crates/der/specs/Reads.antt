@@ -13,9 +13,11 @@ use Rattle.rules.specs.San.{good_value, sealed}
 use Rattle.reading.specs.Reader.{then, truncated, bad_length, Front, got, refused, then_f, at_end, Raw, raw, write_raw, read_element, tagged, alone, two}
 use Rattle.reading.specs.Strings.{read_value}
 use Rattle.reading.proofs.Element.{element_sound, element_append}
-use Rattle.der.specs.Places.{place_element, element_at, tag_fits, tagged_at, value_at, found?}
+use Rattle.std.specs.Prelude.{Ok, Err}
+use Rattle.der.specs.Places.{Answer, found, place_element, element_at, tag_fits, tagged_at, value_at, found?}
 use Rattle.der.specs.declared.Element.{Element}
-use Rattle.der.specs.declared.Element.TheVariants.{Found, Truncated, BadLength, BadTag}
+use Rattle.der.specs.declared.ElementError.{ElementError}
+use Rattle.der.specs.declared.ElementError.TheVariants.{Truncated, BadLength, BadTag}
 
 -- ---- parts of parts
 
@@ -76,19 +78,17 @@ module _ (s : List ℕ) (end : ℕ) (fits : end ≤ length s) (at : ℕ) (h : at
       }
 
   -- the code's answer says what the reader reads
-  pub found_read : (t start next : ℕ) → element_at s at end ≡ Found t start next → Read s at end t start next
+  pub found_read : (x : Element) → element_at s at end ≡ Ok x → Read s at end x.tag x.start x.next
   unfolding element_at place_element
-  found_read t start next e = go (read_element (slice at end s)) refl
+  found_read x e = go (read_element (slice at end s)) refl
     where
-      go : (o : Front Raw) → read_element (slice at end s) ≡ o → Read s at end t start next
-      go (refused truncated) f = let k : Truncated ≡ Found t start next = sym (ap (place_element end) f) ∙ e in let z : ◌≡◌ {A = ℕ} 0 1 = cc in absurd (omega arith)
-      go (refused bad_length) f = let k : BadLength ≡ Found t start next = sym (ap (place_element end) f) ∙ e in let z : ◌≡◌ {A = ℕ} 0 1 = cc in absurd (omega arith)
-      go (got x r) f =
-          let k : Found x.tag (end - length r - length x.content) (end - length r) ≡ Found t start next = sym (ap (place_element end) f) ∙ e in
-          let a : t ≡ x.tag = cc in
-          let b : start ≡ end - length r - length x.content = cc in
-          let c : next ≡ end - length r = cc in
-          rw (a, b, c) (found_of x r f)
+      go : (o : Front Raw) → read_element (slice at end s) ≡ o → Read s at end x.tag x.start x.next
+      go (refused truncated) f = let k : ◌≡◌ {A = Answer} (Err Truncated) (Ok x) = sym (ap (place_element end) f) ∙ e in let z : ◌≡◌ {A = ℕ} 0 1 = cc in absurd (omega arith)
+      go (refused bad_length) f = let k : ◌≡◌ {A = Answer} (Err BadLength) (Ok x) = sym (ap (place_element end) f) ∙ e in let z : ◌≡◌ {A = ℕ} 0 1 = cc in absurd (omega arith)
+      go (got y r) f =
+          let k : found y.tag (end - length r - length y.content) (end - length r) ≡ Ok x = sym (ap (place_element end) f) ∙ e in
+          let a : record { tag = y.tag; start = end - length r - length y.content; next = end - length r } ≡ x = cc in
+          rw (← a) (found_of y r f)
 
   pub refused_read : {B : Type 0} (K : Raw → List ℕ → Option B) → found? (element_at s at end) ≡ false → then_f (read_element (slice at end s)) K ≡ none
   unfolding element_at place_element
@@ -102,20 +102,18 @@ module _ (s : List ℕ) (end : ℕ) (fits : end ≤ length s) (at : ℕ) (h : at
 
 -- ---- an element whose tag passes a test
 
-fits_found : (p : ℕ → Bool) (e : Element) (t start next : ℕ) → tag_fits p e ≡ Found t start next → (p t ≡ true) × (e ≡ Found t start next)
+fits_found : (p : ℕ → Bool) (e : Answer) (x : Element) → tag_fits p e ≡ Ok x → (p x.tag ≡ true) × (e ≡ Ok x)
 unfolding tag_fits
-fits_found p Truncated t start next e = let z : ◌≡◌ {A = ℕ} 0 1 = cc in absurd (omega arith)
-fits_found p BadLength t start next e = let z : ◌≡◌ {A = ℕ} 0 1 = cc in absurd (omega arith)
-fits_found p BadTag t start next e = let z : ◌≡◌ {A = ℕ} 0 1 = cc in absurd (omega arith)
-fits_found p (Found u b n) t start next e = go (p u) refl
+fits_found p (Err why) x e = let z : ◌≡◌ {A = ℕ} 0 1 = cc in absurd (omega arith)
+fits_found p (Ok y) x e = go (p y.tag) refl
   where
-    go : (q : Bool) → p u ≡ q → (p t ≡ true) × (Found u b n ≡ Found t start next)
+    go : (q : Bool) → p y.tag ≡ q → (p x.tag ≡ true) × (◌≡◌ {A = Answer} (Ok y) (Ok x))
     go true f =
-        let k : Found u b n ≡ Found t start next = rw (f, tag_fits) at e in
-        let v : t ≡ u = cc in
+        let k : ◌≡◌ {A = Answer} (Ok y) (Ok x) = rw (f, tag_fits) at e in
+        let v : x ≡ y = cc in
         (rw v f, k)
     go false f =
-        let k : BadTag ≡ Found t start next = rw (f, tag_fits) at e in
+        let k : ◌≡◌ {A = Answer} (Err BadTag) (Ok x) = rw (f, tag_fits) at e in
         let z : ◌≡◌ {A = ℕ} 0 1 = cc in absurd (omega arith)
 
 -- nothing after it
@@ -136,23 +134,21 @@ module _ (s : List ℕ) (end : ℕ) (fits : end ≤ length s) (at : ℕ) (h : at
   unfolding tag_fits
   fits_refused {B} p K k e = go (element_at s at end) refl
     where
-      go : (o : Element) → element_at s at end ≡ o → then_f (read_element (slice at end s)) K ≡ none
-      go Truncated f = refused_read s end fits at h K (rw f)
-      go BadLength f = refused_read s end fits at h K (rw f)
-      go BadTag f = refused_read s end fits at h K (rw f)
-      go (Found t b n) f = tell (p t) refl
+      go : (o : Answer) → element_at s at end ≡ o → then_f (read_element (slice at end s)) K ≡ none
+      go (Err why) f = refused_read s end fits at h K (rw f)
+      go (Ok x) f = tell (p x.tag) refl
         where
-          tell : (q : Bool) → p t ≡ q → then_f (read_element (slice at end s)) K ≡ none
+          tell : (q : Bool) → p x.tag ≡ q → then_f (read_element (slice at end s)) K ≡ none
           tell true g =
               let c : true ≡ false = rw (f, tag_fits, g) at e in
               let z : ◌≡◌ {A = ℕ} 0 1 = cc in absurd (omega arith)
-          tell false g = rw (found_read s end fits at h t b n f).reads (k (raw t (slice b n s)) (slice n end s) g)
+          tell false g = rw (found_read s end fits at h x f).reads (k (raw x.tag (slice x.start x.next s)) (slice x.next end s) g)
 
   module _ {A : Type 0} (w : ℕ) (f : List ℕ → Option A) where
     wrong_tag : (x : Raw) → eqb x.tag w ≡ false → tagged w f x ≡ none
     wrong_tag x e = rw e
 
-    module _ (e : Element) (e_is : e ≡ tagged_at s at end w) where
+    module _ (e : Answer) (e_is : e ≡ tagged_at s at end w) where
       pub alone_none : found? e ≡ false → alone (tagged w f) (slice at end s) ≡ none
       unfolding tagged_at
       alone_none q = fits_refused (λ t. eqb t w) _ (λ x r d. rw (wrong_tag x d) (no_end r)) (rw e_is at q)
@@ -161,25 +157,25 @@ module _ (s : List ℕ) (end : ℕ) (fits : end ≤ length s) (at : ℕ) (h : at
       unfolding tagged_at
       two_none g q = fits_refused (λ t. eqb t w) _ (λ x r d. rw (wrong_tag x d)) (rw e_is at q)
 
-      module _ (t b n : ℕ) (found : e ≡ Found t b n) where
-        tagged_found : (eqb t w ≡ true) × (element_at s at end ≡ Found t b n)
+      module _ (x : Element) (found : e ≡ Ok x) where
+        tagged_found : (eqb x.tag w ≡ true) × (element_at s at end ≡ Ok x)
         unfolding tagged_at
-        tagged_found = fits_found (λ t. eqb t w) (element_at s at end) t b n (sym e_is ∙ found)
+        tagged_found = fits_found (λ t. eqb t w) (element_at s at end) x (sym e_is ∙ found)
 
-        pub tagged_read : Read s at end t b n
-        tagged_read = found_read s end fits at h t b n tagged_found.1
+        pub tagged_read : Read s at end x.tag x.start x.next
+        tagged_read = found_read s end fits at h x tagged_found.1
 
-        pub tagged_is : t ≡ w
-        tagged_is = eqb-true t w tagged_found.0
+        pub tagged_is : x.tag ≡ w
+        tagged_is = eqb-true x.tag w tagged_found.0
 
-        pub alone_open : (n ≡ end → ⊥) → alone (tagged w f) (slice at end s) ≡ none
+        pub alone_open : (x.next ≡ end → ⊥) → alone (tagged w f) (slice at end s) ≡ none
         alone_open q =
-            rw tagged_read.reads (end_later s n end _ (omega (arith, tagged_read.rest)) fits)
+            rw tagged_read.reads (end_later s x.next end _ (omega (arith, tagged_read.rest)) fits)
 
-        pub alone_found : n ≡ end → alone (tagged w f) (slice at end s) ≡ f (slice b end s)
+        pub alone_found : x.next ≡ end → alone (tagged w f) (slice at end s) ≡ f (slice x.start end s)
         alone_found q = rw (tagged_read.reads, q) (end_here s end _ ∙ rw tagged_found.0)
 
-        pub two_found : {B : Type 0} (g : Raw → Option B) → two (tagged w f) g (slice at end s) ≡ then (f (slice b n s)) (λ a. then (alone g (slice n end s)) (λ d. some (a, d)))
+        pub two_found : {B : Type 0} (g : Raw → Option B) → two (tagged w f) g (slice at end s) ≡ then (f (slice x.start x.next s)) (λ a. then (alone g (slice x.next end s)) (λ d. some (a, d)))
         two_found g = rw (tagged_read.reads, tagged_found.0)
 
   -- ---- a value: any tag that is good
@@ -188,23 +184,23 @@ module _ (s : List ℕ) (end : ℕ) (fits : end ≤ length s) (at : ℕ) (h : at
   unfolding good_value
   bad_value x e = rw e
 
-  module _ (e : Element) (e_is : e ≡ value_at s at end) where
+  module _ (e : Answer) (e_is : e ≡ value_at s at end) where
     pub value_none : found? e ≡ false → alone read_value (slice at end s) ≡ none
     unfolding value_at
     value_none q = fits_refused good_tag _ (λ x r d. rw (bad_value x d) (no_end r)) (rw e_is at q)
 
-    module _ (t b n : ℕ) (found : e ≡ Found t b n) where
-      value_found : (good_tag t ≡ true) × (element_at s at end ≡ Found t b n)
+    module _ (x : Element) (found : e ≡ Ok x) where
+      value_found : (good_tag x.tag ≡ true) × (element_at s at end ≡ Ok x)
       unfolding value_at
-      value_found = fits_found good_tag (element_at s at end) t b n (sym e_is ∙ found)
+      value_found = fits_found good_tag (element_at s at end) x (sym e_is ∙ found)
 
-      pub value_read : Read s at end t b n
-      value_read = found_read s end fits at h t b n value_found.1
+      pub value_read : Read s at end x.tag x.start x.next
+      value_read = found_read s end fits at h x value_found.1
 
-      pub value_open : (n ≡ end → ⊥) → alone read_value (slice at end s) ≡ none
-      value_open q = rw value_read.reads (end_later s n end _ (omega (arith, value_read.rest)) fits)
+      pub value_open : (x.next ≡ end → ⊥) → alone read_value (slice at end s) ≡ none
+      value_open q = rw value_read.reads (end_later s x.next end _ (omega (arith, value_read.rest)) fits)
 
-      pub value_is : n ≡ end → alone read_value (slice at end s) ≡ some (raw t (slice b end s))
+      pub value_is : x.next ≡ end → alone read_value (slice at end s) ≡ some (raw x.tag (slice x.start end s))
       unfolding good_value sealed
       value_is q = rw (value_read.reads, q) (end_here s end _ ∙ rw value_found.0)
 

@@ -15,10 +15,10 @@ use Rattle.reading.proofs.Element.{element_length, element_sound, element_comple
 use Rattle.reading.specs.Codec.{Codec}
 use Rattle.reading.proofs.Runs.{items_end, items_open, items_next}
 use Rattle.reading.specs.Strings.{read_name, read_san}
-use Rattle.der.specs.Places.{place_element, element_at, found?}
+use Rattle.std.specs.Prelude.{Ok, Err}
+use Rattle.der.specs.Places.{Answer, place_element, element_at, found?}
 use Rattle.der.specs.Reads.{Read, found_read, refused_read}
 use Rattle.der.specs.declared.Element.{Element}
-use Rattle.der.specs.declared.Element.TheVariants.{Found, Truncated, BadLength, BadTag}
 
 -- ---- parts
 
@@ -60,11 +60,9 @@ pub record First {A : Type 0} (f : Raw → Option A) (s : List ℕ) (at end tag 
   pub list : items_in f s at end ≡ item ∷ items_in f s next end
 
 -- an element that is found
-found_some : {X : Type 0} (e : Element) → found? e ≡ true → ((t b n : ℕ) → e ≡ Found t b n → X) → X
-found_some (Found t b n) f k = k t b n refl
-found_some Truncated f k = let z : ◌≡◌ {A = ℕ} 0 1 = cc in absurd (omega arith)
-found_some BadLength f k = let z : ◌≡◌ {A = ℕ} 0 1 = cc in absurd (omega arith)
-found_some BadTag f k = let z : ◌≡◌ {A = ℕ} 0 1 = cc in absurd (omega arith)
+found_some : {X : Type 0} (e : Answer) → found? e ≡ true → ((x : Element) → e ≡ Ok x → X) → X
+found_some (Ok x) f k = k x refl
+found_some (Err why) f k = let z : ◌≡◌ {A = ℕ} 0 1 = cc in absurd (omega arith)
 
 module _ {A : Type 0} (f : Raw → Option A) (s : List ℕ) (at end : ℕ) (run : Run f s at end) (more : at < end) where
   -- an element stands at the front of a run that has not ended
@@ -102,19 +100,19 @@ module _ {A : Type 0} (f : Raw → Option A) (s : List ℕ) (at end : ℕ) (run 
         list = rw (front, p, q);
       }
 
-  module _ (e : Element) (e_is : e ≡ element_at s at end) where
+  module _ (e : Answer) (e_is : e ≡ element_at s at end) where
     -- the same of what the code finds
     pub no_element_lem : found? e ≡ false → ⊥
     no_element_lem q =
         let k : false ≡ true = sym q ∙ ap found? e_is ∙ run_found in
         let z : ◌≡◌ {A = ℕ} 0 1 = cc in omega arith
 
-    pub first : (t b n : ℕ) → e ≡ Found t b n → First f s at end t b n
-    first t b n found = first_read t b n (found_read s end run.fits at (omega arith) t b n (sym e_is ∙ found))
+    pub first : (x : Element) → e ≡ Ok x → First f s at end x.tag x.start x.next
+    first x found = first_read x.tag x.start x.next (found_read s end run.fits at (omega arith) x (sym e_is ∙ found))
 
   -- and where the code has read none yet
   pub with_first : {X : Type 0} → ((t b n : ℕ) → First f s at end t b n → X) → X
-  with_first k = found_some (element_at s at end) run_found λ t b n found. k t b n (first _ refl t b n found)
+  with_first k = found_some (element_at s at end) run_found λ x found. k x.tag x.start x.next (first _ refl x found)
 
 -- ---- parts as they are written
 
@@ -183,38 +181,32 @@ module _ {A : Type 0} (read : List ℕ → Option (List A)) where
   valid_cases (x ∷ s) e f g = some_of (read (x ∷ s)) e g
 
 -- where the content of the string's own element starts; 0 in an absent string
-unfoldable pub start_of : Element → ℕ
-start_of (Found t b n) = b
-start_of Truncated = 0
-start_of BadLength = 0
-start_of BadTag = 0
+unfoldable pub start_of : Answer → ℕ
+start_of (Ok e) = e.start
+start_of (Err why) = 0
 
 -- where an element ends
-unfoldable pub end_of : Element → ℕ
-end_of (Found t b n) = n
-end_of Truncated = 0
-end_of BadLength = 0
-end_of BadTag = 0
+unfoldable pub end_of : Answer → ℕ
+end_of (Ok e) = e.next
+end_of (Err why) = 0
 
 unfoldable pub content_start : List ℕ → ℕ
 content_start s = start_of (element_at s 0 (length s))
 
-module _ (s : List ℕ) (e : Element) (e_is : e ≡ element_at s 0 (length s)) where
+module _ (s : List ℕ) (e : Answer) (e_is : e ≡ element_at s 0 (length s)) where
   -- the content of the string's element
-  pub start_found : (t b n : ℕ) → e ≡ Found t b n → b ≡ content_start s
+  pub start_found : (x : Element) → e ≡ Ok x → x.start ≡ content_start s
   unfolding content_start start_of
-  start_found t b n f = rw (← e_is, f)
+  start_found x f = rw (← e_is, f)
 
   -- a string without an element, as an absent one
   pub start_none : found? e ≡ false → 0 ≡ content_start s
   unfolding content_start start_of
   start_none f = go e e_is f
     where
-      go : (e : Element) → e ≡ element_at s 0 (length s) → found? e ≡ false → 0 ≡ content_start s
-      go (Found t b n) g f = let z : ◌≡◌ {A = ℕ} 0 1 = cc in absurd (omega arith)
-      go Truncated g f = rw (← g)
-      go BadLength g f = rw (← g)
-      go BadTag g f = rw (← g)
+      go : (e : Answer) → e ≡ element_at s 0 (length s) → found? e ≡ false → 0 ≡ content_start s
+      go (Ok x) g f = let z : ◌≡◌ {A = ℕ} 0 1 = cc in absurd (omega arith)
+      go (Err why) g f = rw (← g)
 
   -- no reader of an element reads it
   pub nothing_read : {B : Type 0} (K : Raw → List ℕ → Option B) → found? e ≡ false → then_f (read_element s) K ≡ none
@@ -228,13 +220,13 @@ pub record Content {A : Type 0} (f : List ℕ → Option A) (s : List ℕ) (a : 
 pub content_read : {A : Type 0} (f : List ℕ → Option A) (s : List ℕ) (a : A) → alone (tagged 0x30 f) s ≡ some a → Content f s a (content_start s)
 content_read f s a p = go (found? (element_at s 0 (length s))) refl
   where
-    inside : (t b n : ℕ) → element_at s 0 (length s) ≡ Found t b n → Content f s a (content_start s)
-    inside t b n e =
-        let r = found_read s (length s) (omega arith) 0 (omega arith) t b n e in
-        at_end_some (slice n (length s) s) _ (rw r.reads at (rw (← take-length s) at p)) λ nothing_left w.
-        when_some (eqb t 0x30) _ w λ tag_is x.
-        let n_is : n ≡ length s = omega (arith, r.rest, length-slice n (length s) s (omega arith), ap length nothing_left) in
-        rw (← start_found s _ (sym e) t b n refl) (record { within = omega (arith, r.body, r.rest); reads = rw n_is at x })
+    inside : (x : Element) → element_at s 0 (length s) ≡ Ok x → Content f s a (content_start s)
+    inside x e =
+        let r = found_read s (length s) (omega arith) 0 (omega arith) x e in
+        at_end_some (slice x.next (length s) s) _ (rw r.reads at (rw (← take-length s) at p)) λ nothing_left w.
+        when_some (eqb x.tag 0x30) _ w λ tag_is y.
+        let n_is : x.next ≡ length s = omega (arith, r.rest, length-slice x.next (length s) s (omega arith), ap length nothing_left) in
+        rw (← start_found s _ (sym e) x refl) (record { within = omega (arith, r.body, r.rest); reads = rw n_is at y })
 
     go : (q : Bool) → found? (element_at s 0 (length s)) ≡ q → Content f s a (content_start s)
     go true e = found_some (element_at s 0 (length s)) e inside

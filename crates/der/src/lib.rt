@@ -7,11 +7,17 @@ ghost use Rattle.der.specs.Runs.{start_of, end_of};
 
 use octets::wide;
 
-// What stands at the front of a part: an element, or why none is read.
+// An element: its tag, where its content starts, and where the next element would start.
 #[derive(Clone, Copy)]
-pub enum Element {
-    // The tag, where the content starts, and where the next element would start.
-    Found { tag: u8, start: usize, next: usize },
+pub struct Element {
+    pub tag: u8,
+    pub start: usize,
+    pub next: usize,
+}
+
+// Why no element is read.
+#[derive(Clone, Copy, Debug, PartialEq, Eq)]
+pub enum ElementError {
     // The part ends before the element does.
     Truncated,
     // The length is not definite and shortest.
@@ -21,29 +27,29 @@ pub enum Element {
 }
 
 // The element whose content starts at `start` and has `len` bytes, if the part has that many.
-fn placed(s: &[u8], tag: u8, start: usize, len: usize, end: usize) -> Element
+fn placed(s: &[u8], tag: u8, start: usize, len: usize, end: usize) -> Result<Element, ElementError>
     requires start_le_end { start ≤ end }
     requires end_in_bounds { end ≤ length s.now }
     ensures { result ≡ placed_at s.now tag start len end }
 {
     if end - start < len {
-        return Element::Truncated;
+        return Err(ElementError::Truncated);
     }
-    Element::Found {
-        tag: tag,
-        start: start,
+    Ok(Element {
+        tag,
+        start,
         next: start + len,
-    }
+    })
 }
 
 // "Every length is definite and shortest: one byte to 127; 81 and a byte from 128 to 255; 82 and two bytes from 256."
-pub fn read_element(s: &[u8], at: usize, end: usize) -> Element
+pub fn read_element(s: &[u8], at: usize, end: usize) -> Result<Element, ElementError>
     requires at_le_end { at ≤ end }
     requires end_in_bounds { end ≤ length s.now }
     ensures { result ≡ element_at s.now at end }
 {
     if end - at < 2 {
-        return Element::Truncated;
+        return Err(ElementError::Truncated);
     }
     let tag = s[at];
     let first = wide(s[at + 1]);
@@ -52,66 +58,54 @@ pub fn read_element(s: &[u8], at: usize, end: usize) -> Element
     }
     if first == 129 {
         if end - at < 3 {
-            return Element::Truncated;
+            return Err(ElementError::Truncated);
         }
         let low = wide(s[at + 2]);
         if low < 128 {
-            return Element::BadLength;
+            return Err(ElementError::BadLength);
         }
         return placed(s, tag, at + 3, low, end);
     }
     if first == 130 {
         if end - at < 4 {
-            return Element::Truncated;
+            return Err(ElementError::Truncated);
         }
         let high = wide(s[at + 2]);
         let low = wide(s[at + 3]);
         if high < 1 {
-            return Element::BadLength;
+            return Err(ElementError::BadLength);
         }
         return placed(s, tag, at + 4, high * 256 + low, end);
     }
-    Element::BadLength
+    Err(ElementError::BadLength)
 }
 
 // The element, if it has this tag.
-pub fn tagged(s: &[u8], at: usize, end: usize, wanted: u8) -> Element
+#[tactic(auto, using(crate::proofs::Laws::laws))]
+pub fn tagged(s: &[u8], at: usize, end: usize, wanted: u8) -> Result<Element, ElementError>
     requires at_le_end { at ≤ end }
     requires end_in_bounds { end ≤ length s.now }
     ensures { result ≡ tagged_at s.now at end wanted }
 {
-    let e = read_element(s, at, end);
-    let Element::Found { tag, start, next } = e else {
-        return e;
-    };
-    if tag == wanted {
-        return Element::Found {
-            tag: tag,
-            start: start,
-            next: next,
-        };
+    let element = read_element(s, at, end)?;
+    if element.tag != wanted {
+        return Err(ElementError::BadTag);
     }
-    Element::BadTag
+    Ok(element)
 }
 
 // An element of any tag but those whose "low five bits all ones is unreadable".
-pub fn value(s: &[u8], at: usize, end: usize) -> Element
+#[tactic(auto, using(crate::proofs::Elements::value_refused, crate::proofs::Elements::value_bad, crate::proofs::Elements::value_good))]
+pub fn value(s: &[u8], at: usize, end: usize) -> Result<Element, ElementError>
     requires at_le_end { at ≤ end }
     requires end_in_bounds { end ≤ length s.now }
     ensures { result ≡ value_at s.now at end }
 {
-    let e = read_element(s, at, end);
-    let Element::Found { tag, start, next } = e else {
-        return e;
-    };
-    if tag % 32 == 31 {
-        return Element::BadTag;
+    let element = read_element(s, at, end)?;
+    if element.tag % 32 == 31 {
+        return Err(ElementError::BadTag);
     }
-    Element::Found {
-        tag: tag,
-        start: start,
-        next: next,
-    }
+    Ok(element)
 }
 
 // Where an element ends that is known to be there, as in a string that has been validated. A length in short form, which is the usual
@@ -126,16 +120,7 @@ pub fn element_end(s: &[u8], at: usize, end: usize) -> usize
     if first < 128 {
         return at + 2 + first;
     }
-    let e = read_element(s, at, end);
-    let Element::Found {
-        tag: _,
-        start: _,
-        next,
-    } = e
-    else {
-        return end;
-    };
-    next
+    read_element(s, at, end).unwrap().next
 }
 
 // Where the content of such an element starts.
@@ -149,14 +134,5 @@ pub fn content_start(s: &[u8], at: usize, end: usize) -> usize
     if first < 128 {
         return at + 2;
     }
-    let e = read_element(s, at, end);
-    let Element::Found {
-        tag: _,
-        start,
-        next: _,
-    } = e
-    else {
-        return end;
-    };
-    start
+    read_element(s, at, end).unwrap().start
 }
