@@ -16,7 +16,6 @@ use Rattle.reading.proofs.Element.{element_sound, element_append}
 use Rattle.std.specs.Prelude.{Ok, Err}
 use Rattle.der.specs.Places.{Answer, found, place_element, element_at, tag_fits, tagged_at, value_at, found?}
 use Rattle.der.specs.declared.Element.{Element}
-use Rattle.der.specs.declared.ElementError.{ElementError}
 use Rattle.der.specs.declared.ElementError.TheVariants.{Truncated, BadLength, BadTag}
 
 -- ---- parts of parts

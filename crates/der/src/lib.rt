@@ -1,5 +1,5 @@
 // DER elements, read from a part of a slice: `at` is where the part starts, `end` where it ends.
-#![tactic(auto)]
+#![tactic(auto, using(crate::proofs::Laws::laws))]
 
 ghost use Rattle.std.specs.Prelude.{◌+◌, ◌≤◌, ◌≡◌, true, length};
 ghost use Rattle.der.specs.Places.{element_at, placed_at, tagged_at, value_at, found?};
@@ -81,7 +81,6 @@ pub fn read_element(s: &[u8], at: usize, end: usize) -> Result<Element, ElementE
 }
 
 // The element, if it has this tag.
-#[tactic(auto, using(crate::proofs::Laws::laws))]
 pub fn tagged(s: &[u8], at: usize, end: usize, wanted: u8) -> Result<Element, ElementError>
     requires at_le_end { at ≤ end }
     requires end_in_bounds { end ≤ length s.now }
@@ -95,7 +94,6 @@ pub fn tagged(s: &[u8], at: usize, end: usize, wanted: u8) -> Result<Element, El
 }
 
 // An element of any tag but those whose "low five bits all ones is unreadable".
-#[tactic(auto, using(crate::proofs::Elements::value_refused, crate::proofs::Elements::value_bad, crate::proofs::Elements::value_good))]
 pub fn value(s: &[u8], at: usize, end: usize) -> Result<Element, ElementError>
     requires at_le_end { at ≤ end }
     requires end_in_bounds { end ≤ length s.now }
