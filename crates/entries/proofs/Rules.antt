@@ -3,14 +3,12 @@ use Prim.Native.Nat.{ℕ, ◌-◌, ◌≤◌}
 use mathlib.Core.Path.{◌≡◌, refl, sym, ap, ◌∙◌}
 use mathlib.Core.Bool.{Bool, true, false, cond, not, ◌&&◌, ◌||◌}
 use mathlib.Core.Option.{some}
-use mathlib.Core.List.{List, [], ◌∷◌}
+use mathlib.Core.List.{List}
 use native.Mathlib.Omega.{arith}
 use lib.ListN.{length, take, drop}
 use lib.Dec.{eqb}
 use lib.Seq.{slice, slice_empty, slice-cons}
 use borrow.Author.Tests.{ne_eqb}
-use denote.Enum.Declared
-use types.Run
 use Rattle.rules.specs.Bytes.{same, ascii}
 use Rattle.rules.specs.San.{GeneralName, plain, other, srv_oid, text_tag, sealed_tag, sealed, good_oid, good_value, good_srv_name, good_name, name_kind}
 use Rattle.reading.specs.Reader.{when, is_some, Raw, raw}
@@ -21,8 +19,8 @@ use Rattle.der.specs.Reads.{part_is}
 use Rattle.entries.specs.Entries.{text_tag_of, text_of, other_at, name_at, ascii_at, good_srv_at, good_name_at}
 use Rattle.entries.specs.Texts.{NamedAt, named, not_named}
 use Rattle.entries.specs.declared.Name.{Name}
-use Rattle.entries.specs.declared.Name.TheVariants.{Is, Malformed}
-use Rattle.entries.specs.contracts.Name as N
+use Rattle.entries.specs.declared.Unreadable.{Unreadable}
+use Rattle.std.specs.Prelude.{Result, Ok, Err}
 use Rattle.entries.proofs.Shapes.{shape_other}
 
 -- ---- every byte below 128
@@ -75,10 +73,6 @@ module _ (s : List ℕ) (t text end : ℕ) (h : text ≤ end) (fits : end ≤ le
 
 -- ---- a GeneralName
 
-pub no_name : (n : Name) → Run.OneOf (1 ∷ []) (Declared.tag_of N.the_type n) → n ≡ Malformed
-no_name (Is k u x) h = absurd (omega arith)
-no_name Malformed h = refl
-
 is_some_when : {A : Type 0} (t : Bool) (a : A) → is_some (when t (some a)) ≡ t
 is_some_when true a = refl
 is_some_when false a = refl
@@ -87,33 +81,33 @@ pub good_is : (x : Raw) (n : GeneralName) → name_of x ≡ some n → is_some (
 unfolding read_name
 good_is x n e = rw e (is_some_when (good_name n) n)
 
-module _ (s : List ℕ) (start end : ℕ) (h : start ≤ end) (fits : end ≤ length s) (n : Name) (n_is : n ≡ other_at s start end) where
+module _ (s : List ℕ) (start end : ℕ) (h : start ≤ end) (fits : end ≤ length s) (n : Result Name Unreadable) (n_is : n ≡ other_at s start end) where
   shape : n ≡ name_at s 0xA0 start end
   shape = shape_other s 0xA0 start end h fits refl n n_is
 
-  pub good_malformed : n ≡ Malformed → false ≡ good_name_at s 0xA0 start end
+  pub good_malformed : (gone : Unreadable) → n ≡ Err gone → false ≡ good_name_at s 0xA0 start end
   unfolding good_name_at read_name
-  good_malformed e = rw (not_named s start end h fits 0xA0 (sym shape ∙ e))
+  good_malformed gone e = rw (not_named s start end h fits 0xA0 (sym shape ∙ e))
 
-  module _ (k u x : ℕ) (found : n ≡ Is k u x) where
-    is_named : NamedAt s start end h fits 0xA0 k u x
-    is_named = named s start end h fits 0xA0 k u x (sym shape ∙ found)
+  module _ (m : Name) (found : n ≡ Ok m) where
+    is_named : NamedAt s start end h fits 0xA0 m.kind m.tag m.text
+    is_named = named s start end h fits 0xA0 m (sym shape ∙ found)
 
-    pub text_fits : x ≤ end
+    pub text_fits : m.text ≤ end
     text_fits = is_named.text_is.within
 
     -- the rules of an otherName, by whether it is an SRVName
-    rules : (r : Bool) → ((o : List ℕ) (t : ℕ) (c : List ℕ) → k ≡ name_kind (other o t c) → u ≡ t → c ≡ slice x end s → r ≡ (not (same o srv_oid) || good_srv_name t c)) → r ≡ good_name_at s 0xA0 start end
+    rules : (r : Bool) → ((o : List ℕ) (t : ℕ) (c : List ℕ) → m.kind ≡ name_kind (other o t c) → m.tag ≡ t → c ≡ slice m.text end s → r ≡ (not (same o srv_oid) || good_srv_name t c)) → r ≡ good_name_at s 0xA0 start end
     unfolding good_name_at name_of good_name text_tag_of text_of
     rules r f =
-        let m = is_named in
-        then_some (read_other (slice start end s)) _ m.reads λ p q e.
-        let w : m.name ≡ other p.0 p.1.tag p.1.content = cc in
+        let d = is_named in
+        then_some (read_other (slice start end s)) _ d.reads λ p q e.
+        let w : d.name ≡ other p.0 p.1.tag p.1.content = cc in
         let g = is_true (good_oid p.0 && good_value p.1.tag p.1.content) (other_c.sound (slice start end s) q).0 in
-        f p.0 p.1.tag p.1.content (m.kind_is ∙ ap name_kind w) (m.tag_is ∙ ap text_tag_of w) (sym (ap text_of w) ∙ m.text_is.text_is)
-        ∙ rw (good_is (raw 0xA0 (slice start end s)) m.name m.reads, w) (rw g)
+        f p.0 p.1.tag p.1.content (d.kind_is ∙ ap name_kind w) (d.tag_is ∙ ap text_tag_of w) (sym (ap text_of w) ∙ d.text_is.text_is)
+        ∙ rw (good_is (raw 0xA0 (slice start end s)) d.name d.reads, w) (rw g)
 
-    pub good_srv_is : k ≡ 9 → (r : Bool) → r ≡ good_srv_at s u x end → r ≡ good_name_at s 0xA0 start end
+    pub good_srv_is : m.kind ≡ 9 → (r : Bool) → r ≡ good_srv_at s m.tag m.text end → r ≡ good_name_at s 0xA0 start end
     unfolding good_srv_at name_kind
     good_srv_is e r r_is = rules r (λ o t c p q w. r_is ∙ rw (q, ← w) (go (same o srv_oid) (sym p ∙ e)))
       where
@@ -121,7 +115,7 @@ module _ (s : List ℕ) (start end : ℕ) (h : start ≤ end) (fits : end ≤ le
         go true f = refl
         go false f = absurd (omega arith)
 
-    pub good_other_is : (k ≡ 9 → ⊥) → true ≡ good_name_at s 0xA0 start end
+    pub good_other_is : (m.kind ≡ 9 → ⊥) → true ≡ good_name_at s 0xA0 start end
     unfolding name_kind
     good_other_is e = rules true (λ o t c p q w. go (good_srv_name t c) (same o srv_oid) (λ z. e (p ∙ z)))
       where

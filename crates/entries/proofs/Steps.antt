@@ -14,10 +14,9 @@ use Rattle.reading.specs.Reader.{is_some, Raw, raw, read_element, alone}
 use Rattle.reading.specs.Strings.{read_name, read_subtree}
 use Rattle.reading.specs.Answers.{then_some, when_some, then_f_some, at_end_some}
 use Rattle.reading.proofs.Element.{element_complete}
-use Rattle.der.specs.Places.{element_at, found?}
+use Rattle.std.specs.Prelude.{Ok, Err}
+use Rattle.der.specs.Places.{Answer, found, element_at, found?}
 use Rattle.der.specs.Reads.{whole_element}
-use Rattle.der.specs.declared.Element.{Element}
-use Rattle.der.specs.declared.Element.TheVariants.{Found, Truncated, BadLength, BadTag}
 use Rattle.der.specs.Runs.{Run, First, first, run_found, start_of, end_of, items_in}
 use Rattle.der.proofs.Elements.{found_room}
 use Rattle.entries.specs.Entries.{whole_at}
@@ -33,21 +32,19 @@ module _ {A : Type 0} (f : Raw → Option A) (s : List ℕ) (at end : ℕ) (run 
 
   module _ (n : ℕ) (n_is : n ≡ end_of (element_at s at end)) where
     -- it is the first of the run
-    with_one : {X : Type 0} → ((t b : ℕ) → element_at s at end ≡ Found t b n → First f s at end t b n → X) → X
+    with_one : {X : Type 0} → ((t b : ℕ) → element_at s at end ≡ found t b n → First f s at end t b n → X) → X
     unfolding end_of
     with_one {X} k = go (element_at s at end) refl
       where
         none_there : found? (element_at s at end) ≡ false → X
         none_there q = absurd (true≢false (sym step_found ∙ q))
 
-        go : (e : Element) → element_at s at end ≡ e → X
-        go (Found t b m) q =
-            let n_m : n ≡ m = n_is ∙ ap end_of q in
-            let there : element_at s at end ≡ Found t b n = q ∙ ap (Found t b) (sym n_m) in
-            k t b there (first f s at end run more (element_at s at end) refl t b n there)
-        go Truncated q = none_there (rw q)
-        go BadLength q = none_there (rw q)
-        go BadTag q = none_there (rw q)
+        go : (e : Answer) → element_at s at end ≡ e → X
+        go (Ok x) q =
+            let n_m : n ≡ x.next = n_is ∙ ap end_of q in
+            let there : element_at s at end ≡ found x.tag x.start n = q ∙ ap (found x.tag x.start) (sym n_m) in
+            k x.tag x.start there (first f s at end run more (element_at s at end) refl (record { tag = x.tag; start = x.start; next = n }) there)
+        go (Err why) q = none_there (rw q)
 
     pub step_end : n ≤ end
     step_end = with_one λ t b q w. w.read.rest

@@ -1,6 +1,6 @@
 -- The text of a name that has been validated, at the place that the code finds.
-use Prim.Native.Nat.{ℕ, ◌+◌, ◌-◌, ◌≤◌, ◌<◌}
-use mathlib.Core.Path.{◌≡◌, refl, ap, ◌∙◌}
+use Prim.Native.Nat.{ℕ, ◌-◌, ◌≤◌}
+use mathlib.Core.Path.{◌≡◌, refl, sym, ap, ◌∙◌}
 use mathlib.Core.Option.{Option, none, some}
 use mathlib.Core.List.{List}
 use native.Mathlib.Omega.{arith}
@@ -11,6 +11,8 @@ use Rattle.octets.proofs.Cases.{by_cases}
 use Rattle.rules.specs.Bytes.{same}
 use Rattle.rules.specs.San.{GeneralName, plain, other, srv_oid, tag_of}
 use Rattle.rules.specs.Matching.{tagged_text, srv_text}
+use Rattle.std.specs.Prelude as std
+use Rattle.std.specs.Prelude.{Some, None}
 use Rattle.reading.specs.Answers.{no_some}
 use Rattle.reading.proofs.Codec.{alone_c}
 use Rattle.reading.proofs.Codecs.{name_c}
@@ -34,32 +36,48 @@ own_tagged tag (plain t d) c e =
     by_cases (eqb t tag) (λ q. let f = rw q at e in cc) (λ q. absurd (no_some (rw q at e)))
 own_tagged tag (other o t d) c e = absurd (no_some e)
 
-module _ (text : GeneralName → Option (List ℕ)) (s : List ℕ) (at end : ℕ) (r : ℕ) (r_is : r ≡ text_place text s at end)
+module _ (text : GeneralName → Option (List ℕ)) (s : List ℕ) (at end : ℕ) (r : std.Option ℕ) (r_is : r ≡ text_place text s at end)
     (m : GeneralName) (m_is : whole_at s at end ≡ some m) where
   -- it stands up to the name's end
-  pub text_there : OwnText text → at ≤ end → end ≤ length s → r ≤ end → text m ≡ some (slice r end s)
-  unfolding OwnText whole_at text_place place_text
-  text_there own h fits k = go (text m) refl
-    where
-      last : TextAt s at end (end - length (text_of m)) (text_of m)
-      last = text_at s at end h fits (rw ((alone_c name_c).sound (slice at end s) m_is).1 (ends_element (tag_of m) (name_ends m)))
+  module _ (own : OwnText text) (h : at ≤ end) (fits : end ≤ length s) (x : ℕ) (found : r ≡ Some x) where
+    last : TextAt s at end (end - length (text_of m)) (text_of m)
+    unfolding whole_at
+    last = text_at s at end h fits (rw ((alone_c name_c).sound (slice at end s) m_is).1 (ends_element (tag_of m) (name_ends m)))
 
-      go : (o : Option (List ℕ)) → text m ≡ o → o ≡ some (slice r end s)
-      go none q =
-          let e : r ≡ end + 1 = r_is ∙ rw (m_is, q) in
-          absurd (omega arith)
-      go (some c) q =
-          let e : r ≡ end - length c = r_is ∙ rw (m_is, q) in
-          let t = own m c q in
-          ap {B = Option (List ℕ)} some (t ∙ last.text_is ∙ rw (← t, ← e))
+    record There : Type 0 where
+      pub within : x ≤ end
+      pub text_is : text m ≡ some (slice x end s)
+
+    there : There
+    unfolding OwnText text_place place_text
+    there = go (text m) refl
+      where
+        go : (o : Option (List ℕ)) → text m ≡ o → There
+        go none q =
+            let e : ◌≡◌ {A = std.Option ℕ} (Some x) None = sym found ∙ r_is ∙ rw (m_is, q) in
+            let z : ◌≡◌ {A = ℕ} 0 1 = cc in absurd (omega arith)
+        go (some c) q =
+            let e : ◌≡◌ {A = std.Option ℕ} (Some x) (Some (end - length c)) = sym found ∙ r_is ∙ rw (m_is, q) in
+            let k : x ≡ end - length c = cc in
+            let t = own m c q in
+            record {
+              within = omega (arith, k);
+              text_is = q ∙ ap {B = Option (List ℕ)} some (t ∙ last.text_is ∙ rw (← t, ← k));
+            }
+
+    pub text_there : text m ≡ some (slice x end s)
+    text_there = there.text_is
+
+    pub text_within : x ≤ end
+    text_within = there.within
 
   -- or there is none
-  pub text_not_there : end < r → text m ≡ none
+  pub text_not_there : r ≡ None → text m ≡ none
   unfolding text_place place_text
   text_not_there k = go (text m) refl
     where
       go : (o : Option (List ℕ)) → text m ≡ o → o ≡ none
       go none q = refl
       go (some c) q =
-          let e : r ≡ end - length c = r_is ∙ rw (m_is, q) in
-          absurd (omega arith)
+          let e : ◌≡◌ {A = std.Option ℕ} None (Some (end - length c)) = sym k ∙ r_is ∙ rw (m_is, q) in
+          let z : ◌≡◌ {A = ℕ} 0 1 = cc in absurd (omega arith)

@@ -22,13 +22,16 @@ use Rattle.reading.specs.Answers.{some_of, and_parts}
 use Rattle.reading.proofs.Element.{element_length, element_complete}
 use Rattle.reading.proofs.Codec.{alone_c}
 use Rattle.reading.proofs.Codecs.{other_c, name_c}
-use Rattle.der.specs.Places.{place_element, element_at, found?}
+use Rattle.std.specs.Prelude as std
+use Rattle.std.specs.Prelude.{Result, Ok, Err, Some, None}
+use Rattle.der.specs.Places.{found, place_element, element_at, found?}
 use Rattle.der.specs.Reads.{found_read, part_of_part}
 use Rattle.der.specs.Runs.{start_of}
-use Rattle.der.specs.declared.Element.TheVariants.{Found}
-use Rattle.entries.specs.Entries.{srv_oid_at, text_tag_of, text_of, place_name, other_at, form_of, whole_at, place_text, text_place}
+use Rattle.entries.specs.Entries.{srv_oid_at, text_tag_of, text_of, named, place_name, other_at, form_of, whole_at, place_text, text_place}
 use Rattle.entries.specs.declared.Name.{Name}
-use Rattle.entries.specs.declared.Name.TheVariants.{Is, Malformed}
+use Rattle.entries.specs.declared.Unreadable.{Unreadable}
+use Rattle.entries.specs.declared.NameForm.{NameForm}
+use Rattle.entries.specs.declared.NameForm.TheVariants.{Srv, Dns}
 
 -- ---- elements in short form
 
@@ -120,19 +123,19 @@ module _ (s : List ℕ) (at end : ℕ) (h : at + 2 ≤ end) (fits : end ≤ leng
     unfolding write_name
     reads = rw (sound.1 ∙ sym (append-nil _)) (element_complete (raw (tag_of m) (content_of m)) [])
 
-    there : element_at s at end ≡ Found (tag_of m) (end - length (content_of m)) end
+    there : element_at s at end ≡ found (tag_of m) (end - length (content_of m)) end
     unfolding element_at place_element
-    there = rw reads (λ i. Found (tag_of m) (zero_less i - length (content_of m)) (zero_less i))
+    there = rw reads (λ i. found (tag_of m) (zero_less i - length (content_of m)) (zero_less i))
       where
         zero_less : end - 0 ≡ end
         zero_less = omega arith
 
-    -- no text, or this one
-    pub text_none : (text : GeneralName → Option (List ℕ)) → text m ≡ none → end + 1 ≡ text_place text s at end
+    -- gone text, or this one
+    pub text_none : (text : GeneralName → Option (List ℕ)) → text m ≡ none → None ≡ text_place text s at end
     unfolding text_place place_text
     text_none text e = rw (m_is, e)
 
-    pub text_some : (text : GeneralName → Option (List ℕ)) (c : List ℕ) → text m ≡ some c → end - length c ≡ text_place text s at end
+    pub text_some : (text : GeneralName → Option (List ℕ)) (c : List ℕ) → text m ≡ some c → Some (end - length c) ≡ text_place text s at end
     unfolding text_place place_text
     text_some text c e = rw (m_is, e)
 
@@ -235,12 +238,12 @@ module _ (s : List ℕ) (at end : ℕ) (h : at + 2 ≤ end) (fits : end ≤ leng
 
       content_at_lem : slice (end - length (content_of m)) end s ≡ content_of m
       content_at_lem =
-          let d = found_read s end fits at (omega arith) (tag_of m) (end - length (content_of m)) end there in
+          let d = found_read s end fits at (omega arith) (record { tag = tag_of m; start = end - length (content_of m); next = end }) there in
           let e = sym d.reads ∙ reads in
           let f : raw (tag_of m) (slice (end - length (content_of m)) end s) ≡ raw (tag_of m) (content_of m) = cc in
           ap (λ y. y.content) f
 
-      name_is : (start : ℕ) → start ≡ start_of (element_at s at end) → other_at s start end ≡ Is (cond (same o srv_oid) 9 0) t (end - length c)
+      name_is : (start : ℕ) → start ≡ start_of (element_at s at end) → other_at s start end ≡ named (cond (same o srv_oid) 9 0) t (end - length c)
       unfolding other_at place_name start_of name_kind text_tag_of text_of
       name_is start start_is = rw (start_is, there, content_at_lem, other_read)
 
@@ -254,16 +257,16 @@ module _ (s : List ℕ) (at end : ℕ) (h : at + 2 ≤ end) (fits : end ≤ leng
     start_within start e = some_of (whole_at s at end) valid λ m p. omega (arith, e ∙ ap start_of (there m p))
 
     module _ (w : ℕ) where
-      pub tag_other_text : (get_or s at 0 ≡ w → ⊥) → end + 1 ≡ text_place (tagged_text w) s at end
+      pub tag_other_text : (get_or s at 0 ≡ w → ⊥) → None ≡ text_place (tagged_text w) s at end
       tag_other_text n = some_of (whole_at s at end) valid λ m p. text_none m p (tagged_text w) (tag_no_text w m (λ e. n (tag_is m p ∙ e)))
 
-      pub tag_here : (w ≡ 0xA0 → ⊥) → get_or s at 0 ≡ w → (r : ℕ) → r ≡ start_of (element_at s at end) → r ≡ text_place (tagged_text w) s at end
+      pub tag_here : (w ≡ 0xA0 → ⊥) → get_or s at 0 ≡ w → (r : ℕ) → r ≡ start_of (element_at s at end) → Some r ≡ text_place (tagged_text w) s at end
       unfolding start_of
       tag_here k e r r_is =
           some_of (whole_at s at end) valid λ m p.
-          r_is ∙ rw (there m p) (text_some m p (tagged_text w) (content_of m) (tag_text w k m (sym (tag_is m p) ∙ e)))
+          ap {B = std.Option ℕ} Some (r_is ∙ rw (there m p)) ∙ text_some m p (tagged_text w) (content_of m) (tag_text w k m (sym (tag_is m p) ∙ e))
 
-    pub srv_not_other : (get_or s at 0 ≡ 0xA0 → ⊥) → end + 1 ≡ text_place srv_text s at end
+    pub srv_not_other : (get_or s at 0 ≡ 0xA0 → ⊥) → None ≡ text_place srv_text s at end
     srv_not_other n = some_of (whole_at s at end) valid λ m p. text_none m p srv_text (tag_not_other m (λ e. n (tag_is m p ∙ e)))
 
     module _ (tag : get_or s at 0 ≡ 0xA0) where
@@ -275,15 +278,15 @@ module _ (s : List ℕ) (at end : ℕ) (h : at + 2 ≤ end) (fits : end ≤ leng
 
       none_here : (same_oid : Bool) → same_oid ≡ false
           → (m : GeneralName) (p : whole_at s at end ≡ some m) (o : List ℕ) (t : ℕ) (c : List ℕ) → m ≡ other o t c → same_oid ≡ same o srv_oid
-          → end + 1 ≡ text_place srv_text s at end
+          → None ≡ text_place srv_text s at end
       none_here b e m p o t c q f = text_none m p srv_text (not_srv m p o t c q (sym f ∙ e))
 
-      pub srv_few : end - at < 16 → end + 1 ≡ text_place srv_text s at end
+      pub srv_few : end - at < 16 → None ≡ text_place srv_text s at end
       srv_few k = with_other λ m p o t c q. none_here (same o srv_oid) (few m p o t c q k) m p o t c q refl
 
       -- in short form
       module _ (long : 16 ≤ end - at) (x : ℕ) (x_is : x ≡ get_or s (at + 1) 0) (low : x < 128) where
-        pub srv_other_length : (get_or s (at + 3) 0 ≡ 8 → ⊥) → end + 1 ≡ text_place srv_text s at end
+        pub srv_other_length : (get_or s (at + 3) 0 ≡ 8 → ⊥) → None ≡ text_place srv_text s at end
         srv_other_length n =
             with_other λ m p o t c q. none_here (same o srv_oid) (oid_other m p o t c q long x x_is low n) m p o t c q refl
 
@@ -292,57 +295,63 @@ module _ (s : List ℕ) (at end : ℕ) (h : at + 2 ≤ end) (fits : end ≤ leng
           unfolding srv_oid_at
           oid_is m p o t c q = r_is ∙ rw (oid_here m p o t c q long x x_is low eight)
 
-          pub srv_other_oid : r ≡ false → end + 1 ≡ text_place srv_text s at end
+          pub srv_other_oid : r ≡ false → None ≡ text_place srv_text s at end
           srv_other_oid e = with_other λ m p o t c q. none_here r e m p o t c q (oid_is m p o t c q)
 
-          pub srv_here : r ≡ true → at + 16 ≡ text_place srv_text s at end
+          pub srv_here : r ≡ true → Some (at + 16) ≡ text_place srv_text s at end
           srv_here e =
               with_other λ m p o t c q.
               let f = sym (oid_is m p o t c q) ∙ e in
-              text_here m p o t c q long x x_is low f ∙ text_some m p srv_text c (is_srv m p o t c q f)
+              ap {B = std.Option ℕ} Some (text_here m p o t c q long x x_is low f) ∙ text_some m p srv_text c (is_srv m p o t c q f)
 
       -- in any form
-      module _ (start : ℕ) (start_is : start ≡ start_of (element_at s at end)) (n : Name) (n_is : n ≡ other_at s start end) where
+      module _ (start : ℕ) (start_is : start ≡ start_of (element_at s at end)) (n : Result Name Unreadable) (n_is : n ≡ other_at s start end) where
         found_so : (m : GeneralName) (p : whole_at s at end ≡ some m) (o : List ℕ) (t : ℕ) (c : List ℕ) → m ≡ other o t c
-            → n ≡ Is (cond (same o srv_oid) 9 0) t (end - length c)
+            → n ≡ named (cond (same o srv_oid) 9 0) t (end - length c)
         found_so m p o t c q = n_is ∙ name_is m p o t c q start start_is
 
-        pub long_formed : {A : Type 0} {y z : A} → n ≡ Malformed → y ≡ z
-        long_formed e =
+        pub long_formed : {A : Type 0} {y z : A} (gone : Unreadable) → n ≡ Err gone → y ≡ z
+        long_formed gone e =
             with_other λ m p o t c q.
             let f = found_so m p o t c q in
             let z : ◌≡◌ {A = ℕ} 0 1 = cc in absurd (omega arith)
 
-        module _ (k u v : ℕ) (shape : n ≡ Is k u v) where
-          pub long_srv : k ≡ 9 → v ≡ text_place srv_text s at end
+        module _ (name : Name) (shape : n ≡ Ok name) where
+          same_kind : {k u v : ℕ} → Ok name ≡ named k u v → name.kind ≡ k
+          same_kind {k} {u} {v} e = let w : name ≡ record { kind = k; tag = u; text = v } = cc in ap (λ y. y.kind) w
+
+          same_text_at : {k u v : ℕ} → Ok name ≡ named k u v → name.text ≡ v
+          same_text_at {k} {u} {v} e = let w : name ≡ record { kind = k; tag = u; text = v } = cc in ap (λ y. y.text) w
+
+          pub long_srv : name.kind ≡ 9 → Some name.text ≡ text_place srv_text s at end
           long_srv e = with_other λ m p o t c q. go m p o t c q (same o srv_oid) refl
             where
               go : (m : GeneralName) (p : whole_at s at end ≡ some m) (o : List ℕ) (t : ℕ) (c : List ℕ) (q : m ≡ other o t c) (b : Bool) → same o srv_oid ≡ b
-                  → v ≡ text_place srv_text s at end
+                  → Some name.text ≡ text_place srv_text s at end
               go m p o t c q true f =
-                  let g = found_so m p o t c q in
-                  let w : v ≡ end - length c = cc in
-                  w ∙ text_some m p srv_text c (is_srv m p o t c q f)
+                  let g = sym shape ∙ found_so m p o t c q in
+                  let w : name.text ≡ end - length c = same_text_at g in
+                  ap {B = std.Option ℕ} Some w ∙ text_some m p srv_text c (is_srv m p o t c q f)
               go m p o t c q false f =
-                  let g = rw f at (found_so m p o t c q) in
-                  let w : k ≡ 0 = cc in
+                  let g = rw f at (sym shape ∙ found_so m p o t c q) in
+                  let w : name.kind ≡ 0 = same_kind g in
                   absurd (omega arith)
 
-          pub long_other : (k ≡ 9 → ⊥) → end + 1 ≡ text_place srv_text s at end
+          pub long_other : (name.kind ≡ 9 → ⊥) → None ≡ text_place srv_text s at end
           long_other e = with_other λ m p o t c q. go m p o t c q (same o srv_oid) refl
             where
               go : (m : GeneralName) (p : whole_at s at end ≡ some m) (o : List ℕ) (t : ℕ) (c : List ℕ) (q : m ≡ other o t c) (b : Bool) → same o srv_oid ≡ b
-                  → end + 1 ≡ text_place srv_text s at end
+                  → None ≡ text_place srv_text s at end
               go m p o t c q true f =
-                  let g = rw f at (found_so m p o t c q) in
-                  let w : k ≡ 9 = cc in
+                  let g = rw f at (sym shape ∙ found_so m p o t c q) in
+                  let w : name.kind ≡ 9 = same_kind g in
                   absurd (e w)
               go m p o t c q false f = none_here false refl m p o t c q (sym f)
 
-  -- the form that a kind asks for
-  module _ (kind r : ℕ) where
-    pub kind_srv : kind ≡ 9 → r ≡ text_place srv_text s at end → r ≡ text_place (form_of kind).text s at end
-    kind_srv e f = f ∙ rw (eq-eqb kind 9 e)
+  -- the form that is restricted
+  module _ (form : NameForm) (r : std.Option ℕ) where
+    pub form_srv : form ≡ Srv → r ≡ text_place srv_text s at end → r ≡ text_place (form_of form).text s at end
+    form_srv e f = f ∙ rw e
 
-    pub kind_dns : (kind ≡ 9 → ⊥) → r ≡ text_place (tagged_text 0x82) s at end → r ≡ text_place (form_of kind).text s at end
-    kind_dns e f = f ∙ rw (ne_eqb kind 9 e)
+    pub form_dns : form ≡ Dns → r ≡ text_place (tagged_text 0x82) s at end → r ≡ text_place (form_of form).text s at end
+    form_dns e f = f ∙ rw e

@@ -1,34 +1,30 @@
-use Rattle.std.proofs.Common.{rules, ◌≡◌, false}
-use Rattle.der.specs.Places.{found?}
-use Rattle.entries.proofs.Laws.{laws}
-use Rattle.entries.proofs.Shapes.{none_found}
+use Rattle.std.proofs.Common.{rules}
+use Rattle.entries.proofs.Laws.{attributes}
 use Rattle.entries.proofs.attribute.Goals as goal
 
 pub returns-then-tag-ne48 : goal.returns-then-tag-ne48
-returns-then-tag-ne48 c = search (rules, laws)
+returns-then-tag-ne48 c = search (rules, attributes)
 
-pub returns-in_default : goal.returns-in_default
-returns-in_default c = search (rules, laws)
+pub returns-in_err-oid : goal.returns-in_err-oid
+returns-in_err-oid c = let oid = c.in_err-oid.was in search (rules, attributes)
 
-pub returns-then-oid-next : goal.returns-then-oid-next
-returns-then-oid-next c = search (rules, laws)
+pub returns-then-oid : goal.returns-then-oid
+returns-then-oid c = let oid = c.in_ok-oid.was in search (rules, attributes)
+
+pub value-requires-clause-at_le_end : goal.value-requires-clause-at_le_end
+value-requires-clause-at_le_end c = let oid = c.in_ok-oid.was in search (rules, attributes)
+
+pub returns-in_err-value : goal.returns-in_err-value
+returns-in_err-value c = let oid = c.in_ok-oid.was in let value = c.in_err-value.was in search (rules, attributes)
+
+pub returns-then-value-end : goal.returns-then-value-end
+returns-then-value-end c = let oid = c.in_ok-oid.was in let value = c.in_ok-value.was in search (rules, attributes)
 
 pub is_cn_oid-cn-requires-clause-start_le_end : goal.is_cn_oid-cn-requires-clause-start_le_end
-is_cn_oid-cn-requires-clause-start_le_end c = search (rules, laws)
+is_cn_oid-cn-requires-clause-start_le_end c = let oid = c.in_ok-oid.was in search (rules, attributes)
 
 pub is_cn_oid-cn-requires-clause-end_in_bounds : goal.is_cn_oid-cn-requires-clause-end_in_bounds
-is_cn_oid-cn-requires-clause-end_in_bounds c = search (rules, laws)
-
-pub value-v-requires-clause-at_le_end : goal.value-v-requires-clause-at_le_end
-value-v-requires-clause-at_le_end c = search (rules, laws)
-
-pub returns-in_default-v : goal.returns-in_default-v
-returns-in_default-v c =
-    let q : found? c.value-v.result ≡ false = none_found c.value-v.result c.in_default-v.not-Found in
-    search (rules, laws)
-
-pub returns-then-past-end : goal.returns-then-past-end
-returns-then-past-end c = search (rules, laws)
+is_cn_oid-cn-requires-clause-end_in_bounds c = let oid = c.in_ok-oid.was in search (rules, attributes)
 
 pub returns : goal.returns
-returns c = search (rules, laws)
+returns c = let oid = c.in_ok-oid.was in let value = c.in_ok-value.was in search (rules, attributes)

@@ -1,24 +1,7 @@
-use Rattle.std.proofs.Common.{rules}
-use Rattle.entries.proofs.Laws.{laws}
+use Rattle.entries.proofs.Subtrees.{subtree_srv}
 use Rattle.entries.proofs.good_other_subtree.Goals as goal
 
-pub returns-in_default : goal.returns-in_default
-returns-in_default c = search (rules, laws)
-
-pub good_srv-ok-requires-clause-text_le_end : goal.good_srv-ok-requires-clause-text_le_end
-good_srv-ok-requires-clause-text_le_end c = search (rules, laws)
-
-pub slice_bounds-restriction-count : goal.slice_bounds-restriction-count
-slice_bounds-restriction-count c = search (rules, laws)
-
-pub slice_bounds-restriction-start : goal.slice_bounds-restriction-start
-slice_bounds-restriction-start c = search (rules, laws)
-
-pub returns-then-ok : goal.returns-then-ok
-returns-then-ok c = search (rules, laws)
-
-pub returns-then-kind-eq9 : goal.returns-then-kind-eq9
-returns-then-kind-eq9 c = search (rules, laws)
-
-pub returns : goal.returns
-returns c = search (rules, laws)
+pub returns-then-good_srv : goal.returns-then-good_srv
+returns-then-good_srv c =
+    subtree_srv c.args.s.now c.args.start c.args.end c.requires.start_le_end c.requires.end_in_bounds c.other_name.result c.other_name.ensures
+    c.in-Ok.name c.in-Ok.is c.if-name-ne-SRV_NAME.false c.good_srv.result c.good_srv.ensures c.if-good_srv.true c.restriction.result c.restriction.ensures

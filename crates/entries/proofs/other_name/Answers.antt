@@ -1,45 +1,36 @@
-use Rattle.std.proofs.Common.{rules, ◌≡◌, false}
-use Rattle.der.specs.Places.{found?}
-use Rattle.entries.proofs.Laws.{laws}
-use Rattle.entries.proofs.Shapes.{none_found}
+use Rattle.std.proofs.Common.{rules}
+use Rattle.entries.proofs.Laws.{others}
 use Rattle.entries.proofs.other_name.Goals as goal
 
-pub returns-in_default : goal.returns-in_default
-returns-in_default c = search (rules, laws)
+pub returns-in_err-oid : goal.returns-in_err-oid
+returns-in_err-oid c = let oid = c.in_err-oid.was in search (rules, others)
 
-pub returns-then-oid-next : goal.returns-then-oid-next
-returns-then-oid-next c = search (rules, laws)
+pub returns-then-oid : goal.returns-then-oid
+returns-then-oid c = let oid = c.in_ok-oid.was in search (rules, others)
 
-pub is_srv_oid-srv-requires-clause-start_le_end : goal.is_srv_oid-srv-requires-clause-start_le_end
-is_srv_oid-srv-requires-clause-start_le_end c = search (rules, laws)
+pub tagged-requires-2-clause-at_le_end : goal.tagged-requires-2-clause-at_le_end
+tagged-requires-2-clause-at_le_end c = let oid = c.in_ok-oid.was in search (rules, others)
 
-pub is_srv_oid-srv-requires-clause-end_in_bounds : goal.is_srv_oid-srv-requires-clause-end_in_bounds
-is_srv_oid-srv-requires-clause-end_in_bounds c = search (rules, laws)
+pub returns-in_err-inner : goal.returns-in_err-inner
+returns-in_err-inner c = let oid = c.in_ok-oid.was in let inner = c.in_err-inner.was in search (rules, others)
 
-pub tagged-w-requires-clause-at_le_end : goal.tagged-w-requires-clause-at_le_end
-tagged-w-requires-clause-at_le_end c = search (rules, laws)
+pub returns-then-inner-end : goal.returns-then-inner-end
+returns-then-inner-end c = let oid = c.in_ok-oid.was in let inner = c.in_ok-inner.was in search (rules, others)
 
-pub returns-in_default-w : goal.returns-in_default-w
-returns-in_default-w c =
-    let q : found? c.tagged-w.result ≡ false = none_found c.tagged-w.result c.in_default-w.not-Found in
-    search (rules, laws)
+pub value-requires-clause-at_le_end : goal.value-requires-clause-at_le_end
+value-requires-clause-at_le_end c = let oid = c.in_ok-oid.was in let inner = c.in_ok-inner.was in search (rules, others)
 
-pub returns-then-last-end : goal.returns-then-last-end
-returns-then-last-end c = search (rules, laws)
+pub returns-in_err-value : goal.returns-in_err-value
+returns-in_err-value c = let oid = c.in_ok-oid.was in let inner = c.in_ok-inner.was in let value = c.in_err-value.was in search (rules, others)
 
-pub value-v-requires-clause-at_le_end : goal.value-v-requires-clause-at_le_end
-value-v-requires-clause-at_le_end c = search (rules, laws)
+pub returns-then-value-end : goal.returns-then-value-end
+returns-then-value-end c = let oid = c.in_ok-oid.was in let inner = c.in_ok-inner.was in let value = c.in_ok-value.was in search (rules, others)
 
-pub returns-in_default-v : goal.returns-in_default-v
-returns-in_default-v c =
-    let q : found? c.value-v.result ≡ false = none_found c.value-v.result c.in_default-v.not-Found in
-    search (rules, laws)
+pub other_kind-requires-clause-start_le_end : goal.other_kind-requires-clause-start_le_end
+other_kind-requires-clause-start_le_end c = let oid = c.in_ok-oid.was in search (rules, others)
 
-pub returns-then-past-end : goal.returns-then-past-end
-returns-then-past-end c = search (rules, laws)
-
-pub returns-then-srv : goal.returns-then-srv
-returns-then-srv c = search (rules, laws)
+pub other_kind-requires-clause-end_in_bounds : goal.other_kind-requires-clause-end_in_bounds
+other_kind-requires-clause-end_in_bounds c = let oid = c.in_ok-oid.was in search (rules, others)
 
 pub returns : goal.returns
-returns c = search (rules, laws)
+returns c = let oid = c.in_ok-oid.was in let inner = c.in_ok-inner.was in let value = c.in_ok-value.was in search (rules, others)

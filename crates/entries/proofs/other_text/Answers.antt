@@ -1,18 +1,7 @@
-use Rattle.std.proofs.Common.{rules}
-use Rattle.entries.proofs.Laws.{laws}
+use Rattle.entries.proofs.Whole.{long_formed}
 use Rattle.entries.proofs.other_text.Goals as goal
 
-pub content_start-start-requires-clause-end_value : goal.content_start-start-requires-clause-end_value
-content_start-start-requires-clause-end_value c = search (rules, laws)
-
-pub other_name-n-requires-clause-start_le_end : goal.other_name-n-requires-clause-start_le_end
-other_name-n-requires-clause-start_le_end c = search (rules, laws)
-
 pub returns-in_default : goal.returns-in_default
-returns-in_default c = search (rules, laws)
-
-pub returns-then-kind-eq9 : goal.returns-then-kind-eq9
-returns-then-kind-eq9 c = search (rules, laws)
-
-pub returns : goal.returns
-returns c = search (rules, laws)
+returns-in_default c =
+    long_formed c.args.s.now c.args.at c.args.end c.requires.at_bound c.requires.end_in_bounds c.requires.end_value c.requires.at_value
+    c.content_start-start.result c.content_start-start.ensures c.other_name.result c.other_name.ensures c.in_default.field-0 c.in_default.is
