@@ -1,8 +1,8 @@
 // Bytes of a text: the classes of bytes, the comparison of texts with and without case, and the place of a byte; and the lengths of texts.
 #![tactic(auto)]
 
-ghost use Rattle.std.specs.Prelude.{◌≡◌, ◌+◌, ◌-◌, ◌<◌, ◌≤◌, length, drop, eqb};
-ghost use Rattle.rules.specs.Bytes.{all, any, same, before};
+ghost use Rattle.std.specs.Prelude.{◌≡◌, true, false, ◌+◌, ◌-◌, ◌<◌, ◌≤◌, length, drop, eqb, ltb, MatchOption};
+ghost use Rattle.rules.specs.Bytes.{all, any, same, before, after};
 ghost use Rattle.rules.specs.Names.{is, letter, digit, letter_digit_hyphen, scheme_byte, same_text};
 ghost use Rattle.rules.specs.Names as names;
 ghost use Rattle.rules.specs.Bytes as bytes;
@@ -227,6 +227,56 @@ pub fn find(s: &[u8], b: u8) -> usize
         at += 1;
     }
     at
+}
+
+// A text, and where its first dot stands: at its length, where it has none. A text that is held against many is searched once.
+#[derive(Clone, Copy)]
+pub struct Dotted<'a> {
+    pub text: &'a [u8],
+    pub dot: usize,
+    pub ghost at_first_dot: { dot ≡ length (before (is names.dot) text.now) },
+    pub ghost in_bounds: { dot ≤ length text.now },
+}
+
+impl<'a> Dotted<'a> {
+    pub fn new(text: &'a [u8]) -> Self
+        ensures { result.text ≡ text.entry }
+    {
+        Dotted {
+            text,
+            dot: find(text, b'.'),
+        }
+    }
+
+    // Whether there is a dot.
+    #[tactic(auto, using(crate::proofs::Laws::has_is))]
+    pub fn has_dot(&self) -> bool
+        ensures value { result ≡ any (is names.dot) self.now.text.now }
+        ensures place { result ≡ ltb self.now.dot (length self.now.text.now) }
+    {
+        self.dot < self.text.len()
+    }
+
+    // What stands before the first dot: of a domain, its first label.
+    #[tactic(auto, using(crate::proofs::Place::part_before))]
+    pub fn first_label(&self) -> &'a [u8]
+        ensures { result.now ≡ before (is names.dot) self.now.text.now }
+    {
+        &self.text[..self.dot]
+    }
+
+    // What stands past the first dot, if there is one.
+    #[tactic(auto, using(crate::proofs::Place::rest_after))]
+    pub fn past_dot(&self) -> Option<&'a [u8]>
+        ensures value { MatchOption result (any (is names.dot) self.now.text.now ≡ false) (λ past. (any (is names.dot) self.now.text.now ≡ true) × (past.now ≡ after (is names.dot) self.now.text.now)) }
+        ensures place { MatchOption result (self.now.dot ≡ length self.now.text.now) (λ past. (self.now.dot < length self.now.text.now) × (past.now ≡ drop (self.now.dot + 1) self.now.text.now)) }
+    {
+        if self.has_dot() {
+            Some(&self.text[self.dot + 1..])
+        } else {
+            None
+        }
+    }
 }
 
 // Whether s has a byte b.

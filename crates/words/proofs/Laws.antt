@@ -1,18 +1,21 @@
 -- What each function of the crate returns.
 use Prim.Native.Nat.{ℕ, suc, ◌+◌, ◌-◌, ◌*◌, ◌<◌, ◌≤◌}
-use mathlib.Core.Path.{◌≡◌, refl, sym, ap₂, ◌∙◌}
+use mathlib.Core.Path.{◌≡◌, refl, sym, ap, ap₂, ◌∙◌}
 use mathlib.Core.Bool.{Bool, true, false, not, ◌&&◌}
-use mathlib.Core.List.{List, ◌∷◌, ◌++◌}
+use mathlib.Core.List.{List, [], ◌∷◌, ◌++◌}
 use native.Mathlib.Omega.{arith}
-use lib.ListN.{length, get_or}
+use lib.ListN.{length, get_or, take, drop}
 use lib.Seq.{slice, slice_empty, slice-cons, length-slice}
 use lib.Dec.{eqb}
 use lib.Bits.{bit_and, bit_or}
-use borrow.Author.Tests.{lt-ltb, le-ltb, eq-eqb, ne_eqb, not-true, not-false}
-use Rattle.words.specs.Words.{value, byte?, low?, zero?, every, Number}
-use Rattle.words.proofs.Values.{value_zero, value_low, masked_or, or_zero, value_append}
+use borrow.Author.Tests.{lt-ltb, not-true, not-false}
+use Rattle.std.proofs.lemmas.List.{drop-take, get_or-drop, get_or-take}
+use Rattle.std.specs.List.{list_all}
+use Rattle.rules.specs.Bytes.{all}
+use Rattle.words.specs.Words.{value, byte?, clear?, every, Number}
+use Rattle.words.proofs.Values.{each, value_clear, masked_or, value_append}
 use Rattle.words.proofs.Ranges.{slice_cut}
-use Rattle.words.proofs.Every.{all_append, every_none, every_byte, every_overlap, Left, left_begin, left_past, left_fails, left_none, left_last}
+use Rattle.words.proofs.Every.{all_from_list, all_append, every_none, every_overlap, Left, left_begin, left_past, left_fails, left_last}
 
 number_none : (s : List ℕ) (at : ℕ) → Number 0 s at 0
 unfolding value
@@ -59,16 +62,14 @@ word_is s at x y fits p q =
 
 -- ---- a word's bytes, by one test
 
-module _ (s : List ℕ) (at x : ℕ) (is_x : Number 8 s at x) (fits : at + 8 ≤ length s) where
-  pub word_zero : eqb x 0 ≡ every zero? s at (at + 8)
+-- the test of a byte, and its bits in each of eight
+module _ (bits : ℕ) (byte : bits < 256) (m : ℕ) (is_m : m ≡ bits * 0x0101010101010101) (s : List ℕ) where
+  word_clear : (at x : ℕ) → at + 8 ≤ length s → Number 8 s at x → eqb (bit_and x m) 0 ≡ every (clear? bits) s at (at + 8)
   unfolding every
-  word_zero = rw is_x.is (value_zero (slice at (at + 8) s))
-
-  pub word_low : eqb (bit_and x 0x8080808080808080) 0 ≡ every low? s at (at + 8)
-  unfolding every
-  word_low =
+  word_clear at x fits is_x =
       let long : length (slice at (at + 8) s) ≡ 8 = length-slice at (at + 8) s fits ∙ omega arith in
-      rw is_x.is (rw long at (value_low (slice at (at + 8) s) is_x.bytes))
+      let e : each bits 8 ≡ m = omega arith in
+      rw is_x.is (rw (long, e) at (value_clear bits byte (slice at (at + 8) s) is_x.bytes))
 
 -- two words after one another
 both : (p : ℕ → Bool) (s : List ℕ) (at : ℕ) → at + 16 ≤ length s → every p s at (at + 8) && every p s (at + 8) (at + 8 + 8) ≡ every p s at (at + 16)
@@ -93,65 +94,28 @@ fours p s a b h k =
     four (every p s a (a + 8)) (every p s (a + 8) (a + 8 + 8)) (every p s b (b + 8)) (every p s (b + 8) (b + 8 + 8))
     ∙ ap₂ ◌&&◌ (both p s a h) (both p s b k)
 
-module _ (s : List ℕ) where
-  pub low2_is : (a b x y : ℕ) → a + 8 ≤ length s → b + 8 ≤ length s → Number 8 s a x → Number 8 s b y
-      → eqb (bit_and (bit_or x y) 0x8080808080808080) 0 ≡ every low? s a (a + 8) && every low? s b (b + 8)
-  low2_is a b x y h k p q = rw (masked_or x y 0x8080808080808080, word_low s a x p h, word_low s b y q k)
+module _ (bits m : ℕ) (byte : bits < 256) (is_m : m ≡ bits * 0x0101010101010101) (s : List ℕ) where
+  pub clear2_is : (a b x y : ℕ) → a + 8 ≤ length s → b + 8 ≤ length s → Number 8 s a x → Number 8 s b y
+      → eqb (bit_and (bit_or x y) m) 0 ≡ every (clear? bits) s a (a + 8) && every (clear? bits) s b (b + 8)
+  clear2_is a b x y h k p q = let one = word_clear bits byte m is_m s in rw (masked_or x y m, one a x h p, one b y k q)
 
-  pub zero2_is : (a b x y : ℕ) → a + 8 ≤ length s → b + 8 ≤ length s → Number 8 s a x → Number 8 s b y
-      → eqb (bit_or x y) 0 ≡ every zero? s a (a + 8) && every zero? s b (b + 8)
-  zero2_is a b x y h k p q = rw (or_zero x y, word_zero s a x p h, word_zero s b y q k)
-
-  module _ (a b x y z w : ℕ) (h : a + 16 ≤ length s) (k : b + 16 ≤ length s)
-      (p : Number 8 s a x) (q : Number 8 s (a + 8) y) (r : Number 8 s b z) (t : Number 8 s (b + 8) w) where
-    pub low4_is : eqb (bit_and (bit_or (bit_or (bit_or x y) z) w) 0x8080808080808080) 0 ≡ every low? s a (a + 16) && every low? s b (b + 16)
-    low4_is =
-        let m : ℕ = 0x8080808080808080 in
-        rw (masked_or (bit_or (bit_or x y) z) w m, masked_or (bit_or x y) z m, masked_or x y m)
-        (rw (word_low s a x p (omega arith), word_low s (a + 8) y q (omega arith), word_low s b z r (omega arith), word_low s (b + 8) w t (omega arith))
-        (fours low? s a b h k))
-
-    pub zero4_is : eqb (bit_or (bit_or (bit_or x y) z) w) 0 ≡ every zero? s a (a + 16) && every zero? s b (b + 16)
-    zero4_is =
-        rw (or_zero (bit_or (bit_or x y) z) w, or_zero (bit_or x y) z, or_zero x y)
-        (rw (word_zero s a x p (omega arith), word_zero s (a + 8) y q (omega arith), word_zero s b z r (omega arith), word_zero s (b + 8) w t (omega arith))
-        (fours zero? s a b h k))
+  pub clear4_is : (a b x y z w : ℕ) → a + 16 ≤ length s → b + 16 ≤ length s
+      → Number 8 s a x → Number 8 s (a + 8) y → Number 8 s b z → Number 8 s (b + 8) w
+      → eqb (bit_and (bit_or (bit_or (bit_or x y) z) w) m) 0 ≡ every (clear? bits) s a (a + 16) && every (clear? bits) s b (b + 16)
+  clear4_is a b x y z w h k p q r t =
+      let one = word_clear bits byte m is_m s in
+      rw (masked_or (bit_or (bit_or x y) z) w m, masked_or (bit_or x y) z m, masked_or x y m)
+      (rw (one a x (omega arith) p, one (a + 8) y (omega arith) q, one b z (omega arith) r, one (b + 8) w (omega arith) t)
+      (fours (clear? bits) s a b h k))
 
 -- ---- a byte at a time
 
-module _ (s : List ℕ) (start end : ℕ) (fits : end ≤ length s) where
-  pub few_begin : (p : ℕ → Bool) → start ≤ end → Left p s start end start start
-  few_begin p h = left_begin p s start end start fits (omega arith) h
-
-  one : (p : ℕ → Bool) (at : ℕ) → at < end → every p s at (at + 1) ≡ p (get_or s at 0)
-  one p at h =
-      every_byte p s at (at + 1) (omega arith) (omega arith) ∙ rw (every_none p s (at + 1) (at + 1) (omega arith)) (go (p (get_or s at 0)))
-    where
-      go : (t : Bool) → t && true ≡ t
-      go true = refl
-      go false = refl
-
-  module _ (at : ℕ) where
-    module _ (inv : Left low? s start end start at) where
-      pub low_few_fails : at < end → 128 ≤ get_or s at 0 → false ≡ every low? s start end
-      low_few_fails h e =
-          left_fails low? s start end start fits at inv (at + 1) (omega arith) (omega arith) (one low? at h ∙ le-ltb _ _ e)
-
-      pub low_few_next : at < end → get_or s at 0 < 128 → Left low? s start end start (at + 1)
-      low_few_next h e =
-          left_past low? s start end start fits at inv (at + 1) (omega arith) (omega arith) (one low? at h ∙ lt-ltb _ _ e)
-
-    module _ (inv : Left zero? s start end start at) where
-      pub zero_few_fails : at < end → (get_or s at 0 ≡ 0 → ⊥) → false ≡ every zero? s start end
-      zero_few_fails h e =
-          left_fails zero? s start end start fits at inv (at + 1) (omega arith) (omega arith) (one zero? at h ∙ ne_eqb _ _ e)
-
-      pub zero_few_next : at < end → get_or s at 0 ≡ 0 → Left zero? s start end start (at + 1)
-      zero_few_next h e =
-          left_past zero? s start end start fits at inv (at + 1) (omega arith) (omega arith) (one zero? at h ∙ eq-eqb _ _ e)
-
-    pub few_end : (p : ℕ → Bool) → Left p s start end start at → end ≤ at → true ≡ every p s start end
-    few_end p inv h = left_none p s start end start fits at inv refl h
+-- a text lent from start to end
+pub few_is : (p : ℕ → Bool) (s : List ℕ) (start end : ℕ) → start ≤ end → (r : Bool) → r ≡ list_all p (take (end - start) (drop start s)) → r ≡ every p s start end
+unfolding every
+few_is p s start end h r e =
+    let z : start + (end - start) ≡ end = omega arith in
+    all_from_list p (take (end - start) (drop start s)) r e ∙ ap (all p) (sym (drop-take start (end - start) s) ∙ rw z refl)
 
 -- ---- many at a time, for any test of a byte
 
@@ -169,21 +133,11 @@ module _ (p : ℕ → Bool) (s : List ℕ) (start end : ℕ) (fits : end ≤ len
       let z : end - 16 + 16 ≡ end = omega arith in
       e ∙ rw z (every_overlap p s start (end - 16) (start + 16) end (omega arith) (omega arith) (omega arith) fits)
 
-  pub many_begin : start ≤ end → 16 ≤ end - start → Left p s start end (start + 16) (start + 16)
-  many_begin l h = left_begin p s start end (start + 16) fits (omega arith) (omega arith)
+  -- 32 at a time
+  pub from_start : start ≤ end → Left p s start end start start
+  from_start h = left_begin p s start end start fits (omega arith) h
 
   module _ (last first at : ℕ) (inv : Left p s start end first at) (fine : Bool) where
-    module _ (is_last : last + 16 ≡ end) (is_fine : fine ≡ every p s at (at + 8) && every p s (at + 8) (at + 8 + 8)) where
-      pub eight_fails : at < last → not fine ≡ true → false ≡ every p s start end
-      eight_fails h e =
-          left_fails p s start end first fits at inv (at + 16) (omega arith) (omega arith)
-          (sym (both p s at (omega arith)) ∙ sym is_fine ∙ not-true fine e)
-
-      pub eight_next : at < last → not fine ≡ false → Left p s start end first (at + 16)
-      eight_next h e =
-          left_past p s start end first fits at inv (at + 16) (omega arith) (omega arith)
-          (sym (both p s at (omega arith)) ∙ sym is_fine ∙ not-false fine e)
-
     module _ (is_last : last + 32 ≡ end) (is_fine : fine ≡ every p s at (at + 16) && every p s (at + 16) (at + 16 + 16)) where
       pub sixteen_fails : at < last → not fine ≡ true → false ≡ every p s start end
       sixteen_fails h e =
@@ -195,39 +149,46 @@ module _ (p : ℕ → Bool) (s : List ℕ) (start end : ℕ) (fits : end ≤ len
           left_past p s start end first fits at inv (at + 32) (omega arith) (omega arith)
           (sym (both16 p s at (omega arith)) ∙ sym is_fine ∙ not-false fine e)
 
-  -- at the end: the first and the last sixteen, or the last 32
+  -- at the end: the last 32
   module _ (last at : ℕ) (from : start ≤ last) (past : last ≤ at) (within : at ≤ end) (r : Bool) where
-    pub many_end : Left p s start end (start + 16) at → last + 16 ≡ end
-        → r ≡ every p s start (start + 16) && every p s last (last + 16) → r ≡ every p s start end
-    many_end inv z e =
-        e ∙ rw z (left_last p s start end (start + 16) fits at inv last from past within)
-
     pub last_end : Left p s start end start at → last + 32 ≡ end
         → r ≡ every p s last (last + 16) && every p s (last + 16) (last + 16 + 16) → r ≡ every p s start end
     last_end inv z e =
         let w = left_last p s start end start fits at inv last from past within in
         e ∙ both16 p s last (omega arith) ∙ rw z (rw (every_none p s start start (omega arith)) at w)
 
+  -- the same where the last 32 begin among those that were tested last
+  module _ (last at : ℕ) (from : start ≤ last) (before : at < last) (near : last ≤ at + 32) (within : at ≤ end) (r fine : Bool) where
+    pub near_end : Left p s start end start at → last + 32 ≡ end
+        → fine ≡ every p s at (at + 16) && every p s (at + 16) (at + 16 + 16) → fine ≡ true
+        → r ≡ every p s last (last + 16) && every p s (last + 16) (last + 16 + 16) → r ≡ every p s start end
+    near_end inv z is_fine f e =
+        last_end last (at + 32) from near (omega arith) r (sixteen_next last start at inv fine z is_fine before (rw f refl)) z e
+
+-- ---- every byte, by one test of it or another
+
+module _ (p q : ℕ → Bool) (same : (b : ℕ) → b < 256 → p b ≡ q b) where
+  all_as : (l : List ℕ) → ((k : ℕ) → k < length l → get_or l k 0 < 256) → all p l ≡ all q l
+  all_as [] bytes = refl
+  all_as (x ∷ l) bytes = ap₂ ◌&&◌ (same x (bytes 0 (omega arith))) (all_as l (λ k h. bytes (suc k) (omega arith)))
+
+  pub every_as : (s : List ℕ) (start end : ℕ) → end ≤ length s → ((k : ℕ) → get_or s k 0 < 256) → every p s start end ≡ every q s start end
+  unfolding every
+  every_as s start end fits bytes =
+      all_as (slice start end s)
+      (λ k h. rw (get_or-drop start (take end s) k 0, get_or-take end s (start + k) 0 (omega (arith, h, length-slice start end s fits)))
+      (bytes (start + k)))
+
 pub ruleset laws = (
   half_is,
   word_is,
-  low2_is,
-  low4_is,
-  zero2_is,
-  zero4_is,
-  few_begin,
-  low_few_fails,
-  low_few_next,
-  zero_few_fails,
-  zero_few_next,
-  few_end,
+  clear2_is,
+  clear4_is,
+  few_is,
   eight_overlap,
   sixteen_overlap,
-  many_begin,
-  eight_fails,
-  eight_next,
+  from_start,
   sixteen_fails,
   sixteen_next,
-  many_end,
   last_end,
 )

@@ -1,15 +1,8 @@
-use Rattle.std.proofs.Common.{rules}
-use Rattle.words.proofs.Laws.{laws}
+use Rattle.std.proofs.Common.{arith, ◌∙◌}
+use Rattle.words.specs.Words.{zero?, clear?}
+use Rattle.words.proofs.Values.{clear_zero}
+use Rattle.words.proofs.Laws.{every_as}
 use Rattle.words.proofs.zero.Goals as goal
 
-pub loop-at-init : goal.loop-at-init
-loop-at-init c = search (rules, laws)
-
-pub returns-then-not-fine : goal.returns-then-not-fine
-returns-then-not-fine c = search (rules, laws)
-
-pub loop-at-preserved : goal.loop-at-preserved
-loop-at-preserved c = search (rules, laws)
-
 pub returns : goal.returns
-returns c = search (rules, laws)
+returns c = c.clear.ensures ∙ every_as (clear? 0xFF) zero? clear_zero c.args.s.now c.args.start c.args.end c.requires.end_in_bounds (λ k. omega (arith, c.type_inv.s k))

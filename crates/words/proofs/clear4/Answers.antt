@@ -1,6 +1,6 @@
 use Rattle.std.proofs.Common.{rules}
 use Rattle.words.proofs.Laws.{laws}
-use Rattle.words.proofs.zero2.Goals as goal
+use Rattle.words.proofs.clear4.Goals as goal
 
 pub returns : goal.returns
-returns c = search (rules, laws)
+returns g c = search (rules, laws)
