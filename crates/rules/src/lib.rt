@@ -1,11 +1,14 @@
 // The types that all crates share: the numbers that a caller sees, and where a witness lies.
 // What is right is said in specs/, in document 01's words. The constants of this file are the numbers of specs/Numbers.antt, for code: a
-// proof of equality with a definition fails where the two differ. Its only functions turn a refusal into its number, and a number into a kind.
+// proof of equality with a definition fails where the two differ. Its only functions turn an outcome, a refusal and a
+// step into their numbers, and a number into a kind.
 
 #![tactic(auto)]
 
 ghost use Rattle.std.specs.Prelude.{◌≡◌};
 ghost use Rattle.rules.specs.Numbers.{answer_of, kind_of};
+ghost use Rattle.rules.specs.Verdict.{numbers_of};
+ghost use Rattle.rules.specs.Viewer.{view_numbers};
 
 // The answers.
 pub const MATCH: usize = 0;
@@ -142,6 +145,33 @@ pub struct ViewNumbers {
     pub at: usize,
 }
 
+impl From<View> for ViewNumbers {
+    ghost from_gives = { λ view numbers. numbers ≡ view_numbers view };
+
+    #[tactic(auto, unfolding(crate::specs::Viewer::view_numbers, crate::specs::Viewer::numbers_at))]
+    fn from(view: View) -> ViewNumbers {
+        let at = view.at;
+        match view.row {
+            Some(row) => ViewNumbers {
+                shown: 1,
+                kind: row.kind,
+                start: row.start,
+                length: row.length,
+                group: row.group,
+                at,
+            },
+            None => ViewNumbers {
+                shown: 0,
+                kind: 0,
+                start: 0,
+                length: 0,
+                group: 0,
+                at,
+            },
+        }
+    }
+}
+
 // What a writer answers: the answer, and the length of what is written.
 #[repr(C)]
 #[derive(Clone, Copy)]
@@ -249,4 +279,43 @@ pub enum Outcome {
     Matched(Witness),
     // Answer 1.
     Mismatched,
+}
+
+// The numbers of a verdict that has no witness and no breach.
+const NO_NUMBERS: Verdict = Verdict {
+    answer: MISMATCH,
+    reference: 0,
+    presented: 0,
+    start: 0,
+    length: 0,
+    issuer: 0,
+};
+
+impl From<Outcome> for Verdict {
+    ghost from_gives = { λ outcome verdict. verdict ≡ numbers_of outcome };
+
+    #[tactic(auto, unfolding(crate::specs::Verdict::numbers_of))]
+    fn from(outcome: Outcome) -> Verdict {
+        match outcome {
+            Outcome::Refused(refusal) => Verdict {
+                answer: refusal.into(),
+                ..NO_NUMBERS
+            },
+            Outcome::Broken(breach) => Verdict {
+                answer: CONSTRAINTS_BROKEN,
+                presented: breach.presented,
+                issuer: breach.issuer,
+                ..NO_NUMBERS
+            },
+            Outcome::Matched(witness) => Verdict {
+                answer: MATCH,
+                reference: witness.reference,
+                presented: witness.presented,
+                start: witness.element.start,
+                length: witness.element.length,
+                issuer: 0,
+            },
+            Outcome::Mismatched => NO_NUMBERS,
+        }
+    }
 }
