@@ -5,5 +5,5 @@ use Rattle.octets.proofs.same_early.Goals as goal
 pub returns-then-n-b : goal.returns-then-n-b
 returns-then-n-b c = search (rules, laws)
 
-pub returns-then-x-y : goal.returns-then-x-y
-returns-then-x-y c = search (rules, laws)
+pub returns-then-word : goal.returns-then-word
+returns-then-word c = search (rules, laws)

@@ -1,4 +1,5 @@
-use Rattle.std.proofs.Common.{rules}
+use Rattle.std.proofs.Common.{rules, arith, ◌∙◌}
+use Rattle.octets.proofs.Compare.{each_is}
 use Rattle.octets.proofs.Laws.{laws}
 use Rattle.octets.proofs.same_text.Goals as goal
 
@@ -6,22 +7,19 @@ pub returns-then-n-b : goal.returns-then-n-b
 returns-then-n-b c = search (rules, laws)
 
 pub returns-then-n-lt8 : goal.returns-then-n-lt8
-returns-then-n-lt8 c = search (rules, laws)
+returns-then-n-lt8 c = c.each_same.ensures ∙ each_is c.args.a.now c.args.b.now (omega arith)
 
-pub returns-then-x-y : goal.returns-then-x-y
-returns-then-x-y c = search (rules, laws)
+pub returns-then-word : goal.returns-then-word
+returns-then-word c = search (rules, laws)
 
-pub loop-n-init : goal.loop-n-init
-loop-n-init c = search (rules, laws)
+pub loop-k-init : goal.loop-k-init
+loop-k-init c = search (rules, laws)
 
-pub returns-then-not-same : goal.returns-then-not-same
-returns-then-not-same c = search (rules, laws)
+pub returns-then-not-same_word : goal.returns-then-not-same_word
+returns-then-not-same_word c = search (rules, laws)
 
-pub returns-then-last-k : goal.returns-then-last-k
-returns-then-last-k c = search (rules, laws)
+pub loop-k-preserved : goal.loop-k-preserved
+loop-k-preserved c = search (rules, laws)
 
-pub loop-n-preserved-then-last-k-2 : goal.loop-n-preserved-then-last-k-2
-loop-n-preserved-then-last-k-2 c = search (rules, laws)
-
-pub loop-n-preserved : goal.loop-n-preserved
-loop-n-preserved c = search (rules, laws)
+pub returns-else-not-same_word : goal.returns-else-not-same_word
+returns-else-not-same_word c = search (rules, laws)

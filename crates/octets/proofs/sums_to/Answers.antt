@@ -2,14 +2,14 @@ use Rattle.std.proofs.Common.{rules}
 use Rattle.octets.proofs.Laws.{laws}
 use Rattle.octets.proofs.sums_to.Goals as goal
 
-pub loop-i-init : goal.loop-i-init
-loop-i-init c = search (rules, laws)
+pub loop-n-init : goal.loop-n-init
+loop-n-init c = search (rules, laws)
 
-pub returns-then-left-n : goal.returns-then-left-n
-returns-then-left-n c = search (rules, laws)
+pub returns-in_default : goal.returns-in_default
+returns-in_default c = search (rules, laws)
 
-pub loop-i-preserved : goal.loop-i-preserved
-loop-i-preserved c = search (rules, laws)
+pub loop-n-preserved : goal.loop-n-preserved
+loop-n-preserved c = search (rules, laws)
 
 pub returns : goal.returns
 returns c = search (rules, laws)
