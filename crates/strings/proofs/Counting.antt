@@ -269,9 +269,6 @@ module _ (s : List ℕ) (all : Count) (k at end : ℕ) (inv : all ≡ sets_on s 
       set_read : Read s at end x.tag x.start x.next
       set_read = tagged_read s end fits at h 0x31 (also in_order (items read_attribute)) e e_is x found
 
-      pub set_after : at < x.next
-      set_after = omega (arith, set_read.head, set_read.body)
-
       pub set_body : x.start ≤ x.next
       set_body = set_read.body
 

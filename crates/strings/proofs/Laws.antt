@@ -8,8 +8,6 @@ use Rattle.strings.proofs.Sides.{sides_empty, sides_start, sides_end, sides_refu
 
 pub ruleset places = (next_later, next_body, next_within, next_fits, next_less, next_count)
 
-pub ruleset laws = (order_is, unusual, usual_name_is, usual_attribute_is, usual_set_is)
-
 pub ruleset usual_laws = (usual_within, usual_less, usual_count)
 
 pub ruleset names_laws = (places, usual_laws, usual_names, names_start_lem, names_end, names_refused, names_bad, names_next)
@@ -23,3 +21,5 @@ pub ruleset sets_laws = (usual_laws, usual_sets, sets_start, sets_end, sets_refu
 pub ruleset side_laws = (places, side_start, side_end, side_refused, side_bad, side_next)
 
 pub ruleset sides_laws = (places, sides_empty, sides_start, sides_end, sides_refused, sides_low, sides_high, sides_none, sides_bad, sides_count, sides_sum, sides_next)
+
+pub ruleset laws = (order_is, unusual, usual_name_is, usual_attribute_is, usual_set_is, names_laws, outer_laws, set_laws, sets_laws, side_laws, sides_laws)

@@ -11,7 +11,6 @@ use entries::{Unreadable, attribute, good_name, good_subtree};
 use octets::wide;
 
 // "tag 30", of each of the three strings: where the content starts of the one element that fills the string.
-#[tactic(auto, using(crate::proofs::Laws::outer_laws))]
 fn content(s: &[u8]) -> Result<usize, Unreadable>
     ensures { result ≡ content_at s.now }
 {
@@ -42,7 +41,6 @@ fn usual_name(s: &[u8], at: usize, end: usize) -> Option<usize>
 }
 
 // The GeneralNames from one place to another, one after the other.
-#[tactic(auto, using(crate::proofs::Laws::names_laws))]
 fn count_names(s: &[u8], from: usize, end: usize) -> Result<usize, Unreadable>
     requires from_le_end { from ≤ end }
     requires end_in_bounds { end ≤ length s.now }
@@ -66,7 +64,6 @@ fn count_names(s: &[u8], from: usize, end: usize) -> Result<usize, Unreadable>
 }
 
 // "SAN: tag 30, one or more GeneralNames."
-#[tactic(auto, using(crate::proofs::Laws::outer_laws))]
 pub fn san_count(s: &[u8]) -> Result<usize, Unreadable>
     ensures { result ≡ place_count (read_san s.now) }
 {
@@ -88,7 +85,6 @@ fn in_order(s: &[u8], last: usize, at: usize, next: usize) -> bool
 }
 
 // "one or more attributes (30)", each no earlier than the one before it.
-#[tactic(auto, using(crate::proofs::Laws::set_laws))]
 fn count_set(s: &[u8], from: usize, end: usize) -> Result<usize, Unreadable>
     requires from_le_end { from ≤ end }
     requires end_in_bounds { end ≤ length s.now }
@@ -149,7 +145,6 @@ fn usual_set(s: &[u8], at: usize, end: usize) -> Option<usize>
 }
 
 // The sets from one place to another, one after the other.
-#[tactic(auto, using(crate::proofs::Laws::sets_laws))]
 fn count_sets(s: &[u8], from: usize, end: usize) -> Result<usize, Unreadable>
     requires from_le_end { from ≤ end }
     requires end_in_bounds { end ≤ length s.now }
@@ -171,7 +166,6 @@ fn count_sets(s: &[u8], from: usize, end: usize) -> Result<usize, Unreadable>
 }
 
 // "Subject: tag 30, zero or more sets"
-#[tactic(auto, using(crate::proofs::Laws::outer_laws))]
 pub fn subject_count(s: &[u8]) -> Result<usize, Unreadable>
     ensures { result ≡ place_count (read_subject s.now) }
 {
@@ -180,7 +174,6 @@ pub fn subject_count(s: &[u8]) -> Result<usize, Unreadable>
 }
 
 // The subtrees from one place to another, one after the other.
-#[tactic(auto, using(crate::proofs::Laws::side_laws))]
 fn count_side(s: &[u8], from: usize, end: usize) -> Result<usize, Unreadable>
     requires from_le_end { from ≤ end }
     requires end_in_bounds { end ≤ length s.now }
@@ -200,7 +193,6 @@ fn count_side(s: &[u8], from: usize, end: usize) -> Result<usize, Unreadable>
 }
 
 // "A0 (permitted), A1 (excluded), or both in that order; at least one. Each holds one or more 30 elements".
-#[tactic(auto, using(crate::proofs::Laws::sides_laws))]
 fn count_sides(s: &[u8], from: usize, end: usize) -> Result<usize, Unreadable>
     requires from_le_end { from ≤ end }
     requires end_in_bounds { end ≤ length s.now }
@@ -225,7 +217,6 @@ fn count_sides(s: &[u8], from: usize, end: usize) -> Result<usize, Unreadable>
 }
 
 // "Constraints: tag 30 holding" the sides.
-#[tactic(auto, using(crate::proofs::Laws::outer_laws))]
 pub fn constraints_count(s: &[u8]) -> Result<usize, Unreadable>
     ensures { result ≡ place_count (read_constraints s.now) }
 {
