@@ -4,16 +4,17 @@ use mathlib.Core.Path.{◌≡◌, refl, sym, ap, ◌∙◌}
 use mathlib.Core.Bool.{Bool, true, false, true≢false}
 use mathlib.Core.List.{List}
 use native.Mathlib.Omega.{arith}
-use lib.ListN.{length, get_or}
+use lib.ListN.{length, get_or, take, drop}
 use lib.Seq.{slice_empty}
 use Rattle.std.specs.Prelude.{Option, Some, IfSome, Ok}
 use Rattle.std.specs.Bool.{then_some}
-use Rattle.rules.specs.Bytes.{up_to}
+use Rattle.rules.specs.Bytes.{same, up_to}
+use Rattle.rules.specs.Subject.{cn_oid}
 use Rattle.der.specs.Places.{found, element_at}
 use Rattle.der.specs.Reads.{Read, found_read}
 use Rattle.der.specs.declared.Element.{Element}
 use Rattle.der.proofs.Elements.{short_element, tagged_same, value_good}
-use Rattle.entries.specs.Entries.{cn_oid_at, kind_by, attribute_at, good_name_at}
+use Rattle.entries.specs.Entries.{kind_by, attribute_at, good_name_at}
 use Rattle.entries.specs.declared.Name.{Name}
 use Rattle.entries.proofs.Shapes.{attribute_is}
 use Rattle.strings.specs.Counts.{Count, names_on, order_at, set_at, sets_on}
@@ -54,7 +55,7 @@ usual_attribute_is s start end h fits few tag o o_is some room good t t_is all e
     let b : Element = record { tag = get_or s next 0; start = next + 2; next = next + 2 + t } in
     let value = value_good s next end _ (sym second) b refl good in
     record {
-      name = record { kind = kind_by (cn_oid_at s (start + 2) next) (get_or s next 0); tag = get_or s next 0; text = next + 2 };
+      name = record { kind = kind_by (same (take (next - (start + 2)) (drop (start + 2) s)) cn_oid) (get_or s next 0); tag = get_or s next 0; text = next + 2 };
       named = sym (attribute_is s 0x30 end fits start h refl _ oid a refl (λ q. some (omega (arith, q))) _ value b refl (omega arith) _ refl _ refl);
     }
 
