@@ -1,6 +1,6 @@
 use Rattle.std.proofs.Common.{rules}
 use Rattle.names.proofs.Laws.{laws}
-use Rattle.names.proofs.bad16.Goals as goal
+use Rattle.names.proofs.good16.Goals as goal
 
 pub loop-k-init : goal.loop-k-init
 loop-k-init c = search (rules, laws)
