@@ -1,4 +1,4 @@
--- The laws that the functions' proofs search: one for each return and each step of a loop.
+-- A domain label by label, and a scheme: one law for each return and each step of a loop.
 use Prim.Native.Nat.{ℕ, ◌+◌, ◌-◌, ◌<◌, ◌≤◌}
 use mathlib.Core.Path.{◌≡◌, refl, sym, ap, ◌∙◌}
 use mathlib.Core.List.{List, [], ◌∷◌}
@@ -14,16 +14,9 @@ use Rattle.words.proofs.Every.{all_from_list}
 use Rattle.octets.proofs.Parts.{rest_is}
 use Rattle.rules.proofs.Cases.{clash}
 use Rattle.rules.specs.Bytes.{all, before}
-use Rattle.rules.specs.Names.{letter, digit, ldh, service, domain, scheme_byte, scheme}
+use Rattle.rules.specs.Names.{letter, digit, domain, scheme_byte, scheme}
 use Rattle.names.specs.Label.{outside, bounded}
 use Rattle.names.proofs.Runs
-use Rattle.names.proofs.Pairs
-
--- ---- service
-
-pub service_is_lem : (s : List ℕ) (r : Bool) → r ≡ ldh 62 s → r ≡ service s
-unfolding service
-service_is_lem s r e = e
 
 -- ---- domain
 
@@ -110,22 +103,6 @@ scheme_rest (b ∷ s) n h e r f =
     let g : r ≡ all scheme_byte (take (length (b ∷ s) - 1) (drop 1 (b ∷ s))) = all_from_list scheme_byte _ r f in
     rw (rest_is (b ∷ s) 1) at g ∙ rw (le-leb (length (b ∷ s)) 63 h, e, letter_scheme b e)
 
-pub ruleset laws = (
-  service_is_lem,
-  domain_long,
-  domain_begin,
-  label_bad,
-  label_last,
-  label_next,
-  label_stops,
-  scheme_empty,
-  scheme_long,
-  scheme_first,
-  Pairs.pairs_begin,
-  Pairs.pairs_more,
-  Pairs.first_bad,
-  Pairs.pairs_start,
-  Pairs.pairs_fail,
-  Pairs.pairs_next,
-  Pairs.pairs_end,
-)
+pub ruleset label_laws = (domain_long, domain_begin, label_bad, label_last, label_next, label_stops)
+
+pub ruleset scheme_laws = (scheme_empty, scheme_long, scheme_first)

@@ -298,3 +298,5 @@ module _ (s : List ℕ) where
 
   pub pairs_start : (last : ℕ) → 17 ≤ length s → last + 17 ≡ length s → Left zero? (marks s) 0 (last + 16) 0 0
   pairs_start last low is_last = left_begin zero? (marks s) 0 (last + 16) 0 (omega (arith, marks_long s (omega arith))) (omega arith) (omega arith)
+
+pub ruleset pair_laws = (first_bad, pairs_start, pairs_fail, pairs_next, pairs_end, pairs_near)

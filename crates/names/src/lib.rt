@@ -34,6 +34,7 @@ pub fn ldh(s: &[u8], max: usize) -> bool
 }
 
 // "a service (1 to 62 letters, digits, hyphens, no hyphen at an end)"
+#[tactic(auto, unfolding(rules::specs::Names::service))]
 pub fn service(s: &[u8]) -> bool
     ensures { result ≡ rules.service s.now }
 {
@@ -42,6 +43,7 @@ pub fn service(s: &[u8]) -> bool
 
 // Whether a text is a domain, label by label: a label is a run of letters, digits and hyphens, and after it stands a dot or nothing.
 // "the last label of a domain may not be all digits": of it alone, bytes are looked at again, up to the first that is no digit.
+#[tactic(auto, using(crate::proofs::Laws::label_laws))]
 fn domain_by_labels(s: &[u8]) -> bool
     ensures { result ≡ rules.domain s.now }
 {
@@ -80,6 +82,7 @@ fn may_precede(c: u8, d: u8) -> bool
 
 // Whether each of the sixteen bytes from a place on may stand before the next. The compiler makes this loop straight code on vectors,
 // with no branch on a byte: so all sixteen are asked, and `&` takes the place of `&&`.
+#[tactic(auto, using(crate::proofs::Pairs::pairs_begin, crate::proofs::Pairs::pairs_more))]
 fn good16(s: &[u8], at: usize) -> bool
     requires { at + 17 ≤ length s.now }
     ensures { result ≡ every zero? (pairs.marks s.now) at (at + 16) }
@@ -93,6 +96,7 @@ fn good16(s: &[u8], at: usize) -> bool
 
 // Whether a text of 17 to 63 bytes is a domain, by its neighbouring bytes, sixteen pairs at a time, and the last sixteen again. No
 // label of so short a text is too long, and the last, which ends with a letter, is not all digits.
+#[tactic(auto, using(crate::proofs::Pairs::pair_laws))]
 fn domain_by_pairs(s: &[u8]) -> bool
     requires in_bounds { 17 ≤ length s.now }
     requires s_len_bound { length s.now ≤ 63 }
@@ -136,7 +140,7 @@ pub fn scheme(s: &[u8]) -> bool
 
 // "the subtree's labels are the last labels of its domain": as many bytes at the end are the same, and a dot stands
 // before them.
-#[tactic(auto, using(crate::proofs::Within::within_short, crate::proofs::Within::within_equal, crate::proofs::Within::within_dot, crate::proofs::Within::within_no_dot))]
+#[tactic(auto, using(crate::proofs::Within::laws))]
 pub fn domain_within(subtree: &[u8], name: &[u8]) -> bool
     ensures { result ≡ rules.domain_within subtree.now name.now }
 {

@@ -176,8 +176,6 @@ module _ (p q : ℕ → Bool) (same : (b : ℕ) → b < 256 → p b ≡ q b) whe
 pub ruleset laws = (
   half_is,
   word_is,
-  clear2_is,
-  clear4_is,
   few_is,
   eight_overlap,
   sixteen_overlap,

@@ -1,20 +1,7 @@
-use Rattle.std.proofs.Common.{rules, arith, length, ◌-◌}
-use Rattle.names.proofs.Laws.{laws}
+use Rattle.std.proofs.Common.{arith, length, ◌-◌}
 use Rattle.names.proofs.Pairs.{pairs_end, pairs_near}
 use Rattle.names.proofs.domain_by_pairs.Goals.{else-loop-at-test, then-loop-at-test+else-not-good16+else-last-at-gt16}
 use Rattle.names.proofs.domain_by_pairs.Goals as goal
-
-pub returns-then-not-is_alnum : goal.returns-then-not-is_alnum
-returns-then-not-is_alnum c = search (rules, laws)
-
-pub loop-at-init : goal.loop-at-init
-loop-at-init c = search (rules, laws)
-
-pub returns-then-not-good16 : goal.returns-then-not-good16
-returns-then-not-good16 c = search (rules, laws)
-
-pub loop-at-preserved : goal.loop-at-preserved
-loop-at-preserved c = search (rules, laws)
 
 pub returns : goal.returns
 returns c =
