@@ -1,12 +1,11 @@
 -- Two texts compared without case, part by part.
-use Prim.Native.Nat.{ℕ, suc, ◌+◌, ◌-◌, ◌*◌, ◌<◌, ◌≤◌, min}
+use Prim.Native.Nat.{ℕ, ◌+◌, ◌-◌, ◌*◌, ◌<◌, ◌≤◌, min}
 use mathlib.Core.Path.{◌≡◌, refl, sym, ap, ap₂, ◌∙◌}
 use mathlib.Core.List.{List, [], ◌∷◌}
 use mathlib.Core.Bool.{Bool, true, false, ◌&&◌}
 use native.Mathlib.Omega.{arith}
-use native.Mathlib.Numerals.{add-one}
-use lib.ListN.{length, get_or, take, length-take, drop_of_length-le}
-use lib.Seq.{slice, slice-cons, length-slice, take-length}
+use lib.ListN.{length, take, length-take, drop_of_length-le}
+use lib.Seq.{slice, length-slice, take-length}
 use lib.Dec.{eqb, leb}
 use lib.Bits.{bit_and, bit_or}
 use borrow.Author.Tests.{eq-eqb, leb-true, leb-false}
@@ -18,7 +17,7 @@ use Rattle.words.proofs.Ranges.{slice_cut, past, stop, final}
 use Rattle.rules.specs.Names.{lower, same_text}
 use Rattle.octets.specs.Texts.{same_part}
 use Rattle.rules.proofs.Cases.{fails, by_cases}
-use Rattle.octets.proofs.Compare.{text_append}
+use Rattle.octets.proofs.Compare.{text_append, text_lengths, each_is}
 
 -- a text is the same as itself
 same_self : (a : List ℕ) → same_text a a ≡ true
@@ -33,19 +32,6 @@ module _ (a b : List ℕ) (n : ℕ) (a_long : n ≤ length a) (b_long : n ≤ le
       rw (slice_cut a start m end h k (omega arith), slice_cut b start m end h k (omega arith))
       (text_append (slice start m a) (slice start m b) (slice m end a) (slice m end b)
       (length-slice start m a (omega arith) ∙ sym (length-slice start m b (omega arith))))
-
-  part_byte : (at : ℕ) → at < n → same_part a b at (at + 1) ≡ eqb (lower (get_or a at 0)) (lower (get_or b at 0))
-  unfolding same_part same_text
-  part_byte at h =
-      rw (slice-cons at (at + 1) a 0 (omega arith) (omega arith), slice-cons at (at + 1) b 0 (omega arith) (omega arith), add-one, none a, none b)
-      (go (eqb (lower (get_or a at 0)) (lower (get_or b at 0))))
-    where
-      none : (s : List ℕ) → slice (suc at) (suc at) s ≡ []
-      none s = drop_of_length-le (take (suc at) s) {i = suc at} (simp length-take (omega arith))
-
-      go : (t : Bool) → t && true ≡ t
-      go true = refl
-      go false = refl
 
 part_none : (a b : List ℕ) (at end : ℕ) → end ≤ at → same_part a b at end ≡ true
 unfolding same_part same_text
@@ -86,9 +72,9 @@ module _ (a b : List ℕ) (start end : ℕ) (a_long : end ≤ length a) (b_long 
       rw (part_none a b start start (omega arith)) at
       (final (same_part a b) end (part_cut a b end a_long b_long) start end start at (omega arith) inv last h k l)
 
-  pub few_end : end ≤ at → true ≡ same_part a b start end
+  pub part_end : end ≤ at → true ≡ same_part a b start end
   unfolding PartLeft
-  few_end h = rw (part_none a b start start (omega arith), part_none a b at end h) at inv
+  part_end h = rw (part_none a b start start (omega arith), part_none a b at end h) at inv
 
 -- ---- eight bytes
 
@@ -149,7 +135,7 @@ module _ (a b : List ℕ) (n : ℕ) (a_long : n ≡ length a) (b_long : n ≡ le
     pub whole_end : same ≡ true → n - at ≤ 8 → true ≡ same_text a b
     whole_end e h =
         by_order at last
-        (λ k. few_end a b 0 n (omega arith) (omega arith) (at + 8) (whole_past k e) (omega arith))
+        (λ k. part_end a b 0 n (omega arith) (omega arith) (at + 8) (whole_past k e) (omega arith))
         (λ k. sym e ∙ rest_is k)
         ∙ part_whole a b n a_long b_long
 
@@ -159,3 +145,8 @@ module _ (a b : List ℕ) (n : ℕ) (a_long : n ≡ length a) (b_long : n ≡ le
   whole_early h x y p q d =
       whole_differ (n - 8) 0 0 (omega arith) (omega arith) whole_begin (omega arith) false
       (word_differs a b 0 x y (omega arith) (omega arith) p q d) refl
+
+-- what `same_word` and `same_text` return
+pub ruleset word_laws = (word_same, word_differs, word_cases)
+
+pub ruleset text_laws = (text_lengths, each_is, whole_begin, whole_early, whole_differ, whole_next, whole_end)

@@ -70,6 +70,7 @@ pub fn same_bytes(a: &[u8], b: &[u8]) -> bool
 
 // Whether two bytes that differ are one letter: then the lesser is the capital. Where two bytes do not differ nothing is folded,
 // so this may not be asked of them.
+#[tactic(auto, using(crate::proofs::Classes::letter_less, crate::proofs::Classes::letter_greater))]
 fn same_letter(x: u8, y: u8) -> bool
     requires { x ≡ y → ⊥ }
     ensures { result ≡ eqb (names.lower x) (names.lower y) }
@@ -88,6 +89,7 @@ fn each_same(a: &[u8], b: &[u8]) -> bool
 // Whether eight bytes are the same without case. A letter and its capital differ in one bit, so that two words which differ in another
 // are left at once. In that bit they may differ where a byte is a letter alone: with the bit set, a small letter. What is no small letter
 // has the highest bit, is past `z`, or is before `a`; the last two make the highest bit of a sum and of a difference.
+#[tactic(auto, using(crate::proofs::Texts::word_laws))]
 fn same_word(a: &[u8], b: &[u8], at: usize) -> bool
     requires at_in_bounds { at + 8 ≤ length a.now }
     requires at_in_bounds_2 { at + 8 ≤ length b.now }
@@ -113,6 +115,7 @@ fn same_word(a: &[u8], b: &[u8], at: usize) -> bool
 // Whether two texts are the same without case: eight bytes at a time, at the end the last eight, left at the first eight that differ.
 // Most that differ do so in the first eight, which are looked at before the loop. `same_word` has one call, so that the compiler writes it
 // into the loop.
+#[tactic(auto, using(crate::proofs::Texts::text_laws))]
 pub fn same_text(a: &[u8], b: &[u8]) -> bool
     ensures { result ≡ same_text a.now b.now }
 {
@@ -137,6 +140,7 @@ pub fn same_text(a: &[u8], b: &[u8]) -> bool
 
 // The same of a text that is held against many: one of another length, or whose first eight bytes differ beyond the case, is left before
 // `same_text` is called.
+#[tactic(auto, using(crate::proofs::Texts::text_laws))]
 pub fn same_early(a: &[u8], b: &[u8]) -> bool
     ensures { result ≡ same_text a.now b.now }
 {
@@ -177,7 +181,7 @@ impl<'a> Dotted<'a> {
     }
 
     // Whether there is a dot.
-    #[tactic(auto, using(crate::proofs::Laws::has_is))]
+    #[tactic(auto, using(crate::proofs::Place::some_passes))]
     pub fn has_dot(&self) -> bool
         ensures value { result ≡ any (is names.dot) self.now.text.now }
         ensures place { result ≡ ltb self.now.dot (length self.now.text.now) }
@@ -222,6 +226,7 @@ pub fn digits(s: &[u8]) -> bool
 }
 
 // Whether every byte is below 128, many at a time.
+#[tactic(auto, using(crate::proofs::Classes::ascii_is))]
 pub fn ascii(s: &[u8]) -> bool
     ensures { result ≡ bytes.ascii s.now }
 {
@@ -229,6 +234,7 @@ pub fn ascii(s: &[u8]) -> bool
 }
 
 // The bytes from a place on.
+#[tactic(auto, using(crate::proofs::Parts::rest_is))]
 pub fn from(s: &[u8], start: usize) -> &[u8]
     requires { start ≤ length s.now }
     ensures { (result.now ≡ drop start s.now) × (length result.now ≡ length s.now - start) }
@@ -237,6 +243,7 @@ pub fn from(s: &[u8], start: usize) -> &[u8]
 }
 
 // Whether the lengths add up to the total. What is left of it is counted, so that no sum can be too large.
+#[tactic(auto, using(crate::proofs::Adding::laws))]
 pub fn sums_to(lengths: &[usize], total: usize) -> bool
     ensures { result ≡ eqb (bytes.sum lengths.now) total }
 {
