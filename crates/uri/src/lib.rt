@@ -94,10 +94,7 @@ pub fn scheme_matches(scheme: &[u8], domain: &[u8], text: &[u8]) -> bool
         && domain.len() + 2 < text.len() - n
         && text[n] == b':'
         && octets::same_text(&text[..n], scheme)
-        && past_slashes(&text[n + 1..]).is_some_and(|rest| host_matches(
-            domain,
-            host_and_port(rest),
-        ))
+        && host_in(&text[n + 1..]).is_some_and(|h| host_matches(domain, h))
 }
 
 // The same of any reference: one whose scheme or domain is not good matches nothing.
