@@ -65,9 +65,6 @@ module _ (b : List ℕ) (i : ℕ) (h : i < length b / record_size) where
   pub cancel : i * record_size + record_size - i * record_size ≡ record_size
   cancel = omega arith
 
-  pub record_whole : length (take record_size (drop (i * record_size) b)) ≡ record_size
-  record_whole = simp (length-take, length-drop) (omega (arith, record_room))
-
   pub record_good : good_records b ≡ true → good_record (take record_size (drop (i * record_size) b)) ≡ true
   unfolding good_records part
   record_good g =
