@@ -1,22 +1,22 @@
 -- The laws that the functions' proofs search: one for each return and each loop step.
 use Prim.Native.Nat.{ℕ, zero, suc, ◌+◌, ◌-◌, ◌*◌, ◌/◌, ◌%◌, ◌<◌, ◌≤◌}
-use mathlib.Core.Path.{◌≡◌, refl, sym, ap, ◌∙◌}
-use mathlib.Core.Bool.{Bool, true, false, not}
+use mathlib.Core.Path.{◌≡◌, refl, sym, ◌∙◌}
+use mathlib.Core.Bool.{Bool, true, false}
 use mathlib.Core.List.{List, [], ◌∷◌, ◌++◌, append_assoc, append-nil}
 use mathlib.Core.Option.{none, some}
 use native.Mathlib.Omega.{arith}
 use native.Mathlib.Numerals.{add-one}
-use lib.ListN.{length, take, drop, get_or, set, drop_of_length-le}
-use lib.Seq.{drop-cons, take-suc-set}
+use lib.ListN.{length, take, drop, get_or, set}
+use lib.Seq.{take-suc-set}
 use lib.Dec.{eqb}
-use borrow.Author.Tests.{le-leb, lt-leb, not-true, not-false}
+use borrow.Author.Tests.{le-leb, lt-leb}
 use Rattle.std.specs.List as list
 use Rattle.std.proofs.lemmas.List.Sums.{sum_by_from}
-use Rattle.rules.specs.Bytes.{sum}
+use Rattle.rules.specs.Bytes.{cut, sum}
 use Rattle.rules.specs.Numbers.{most_issuers}
 use Rattle.rules.specs.Seen.{lengths_fit, strings_of, strings_by, lengths_from_c}
 use Rattle.rules.proofs.Cases.{by_cases}
-use Rattle.issuers.specs.Strings.{strings_in, string_at, start_of, start_fits, fit_sum, cut_at, fit_cut, fit_count, wrong_none}
+use Rattle.issuers.specs.Strings.{strings_in, string_at, start_of, start_fits, fit_sum, cut_at, fit_strings, fit_cut, fit_count, wrong_strings, wrong_none}
 use Rattle.issuers.specs.FromC.{pairs, from_even, from_odd, pairs_length}
 
 -- ---- lengths_fit
@@ -71,6 +71,40 @@ module _ (lengths bytes : List ℕ) (k : ℕ) where
         let n : start + get_or lengths k 0 - start ≡ get_or lengths k 0 = omega arith in
         rw (fit_cut lengths bytes fits, cut_at lengths bytes k h, n, starts)
 
+-- ---- the strings, one by one
+
+module _ (ns b : List ℕ) where
+  pub cut_none : length ns ≡ 0 → cut ns b ≡ []
+  unfolding cut
+  cut_none e = go ns e
+    where
+      go : (l : List ℕ) → length l ≡ 0 → cut l b ≡ []
+      go [] h = refl
+      go (n ∷ l) h = absurd (omega arith)
+
+  module _ (n : ℕ) (ms : List ℕ) (e : ns ≡ n ∷ ms) where
+    pub first_within : sum ns ≡ length b → n ≤ length b
+    unfolding sum
+    first_within w = let s : n + sum ms ≡ length b = rw e at w in omega arith
+
+    pub others_whole : (t : List ℕ) → sum ns ≡ length b → length t + n ≡ length b → sum ms ≡ length t
+    unfolding sum
+    others_whole t w h = let s : n + sum ms ≡ length b = rw e at w in omega arith
+
+    pub cut_next : (s t : List ℕ) → s ≡ take n b → t ≡ drop n b → cut ns b ≡ s ∷ cut ms t
+    unfolding cut
+    cut_next s t f g = rw (e, f, g)
+
+  module _ (f : Bool) (f_is : f ≡ lengths_fit ns (length b)) where
+    pub right_whole : f ≡ true → sum ns ≡ length b
+    right_whole e = fit_sum ns (length b) (sym f_is ∙ e)
+
+    pub right_strings : f ≡ true → strings_of ns b ≡ some (cut ns b)
+    right_strings e = fit_strings ns b (sym f_is ∙ e)
+
+    pub wrong_strings_lem : f ≡ false → strings_of ns b ≡ none
+    wrong_strings_lem e = wrong_strings ns b (sym f_is ∙ e)
+
 -- ---- the pairs of C
 
 -- the pairs that are read stand in the array, the others are left
@@ -113,4 +147,4 @@ module _ (b : List ℕ) where
   pub c_read : length b % 2 ≡ 0 → (values : List ℕ) (count : ℕ) → take count values ≡ pairs b → lengths_from_c b ≡ some (take count values)
   c_read e values count h = rw (from_even b e, h)
 
-pub ruleset laws = (fit_many, fit_few, of_wrong, of_past, c_odd, c_many, pairs_begin)
+pub ruleset laws = (fit_many, fit_few, of_wrong, of_past, c_odd, c_many, pairs_begin, first_within, others_whole, right_whole, right_strings, wrong_strings_lem)

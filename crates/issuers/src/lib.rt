@@ -3,9 +3,13 @@
 
 ghost use Rattle.std.specs.Prelude.{ℕ, ◌≤◌, ◌≡◌, List, length, take, MatchOption};
 ghost use Rattle.std.proofs.Math.Option.{none, some};
-ghost use Rattle.rules.specs.Seen.{lengths_fit, strings_by, lengths_from_c};
+ghost use Rattle.rules.specs.Bytes.{cut};
+ghost use Rattle.rules.specs.Seen.{lengths_fit, strings_of, strings_by, lengths_from_c};
 ghost use Rattle.issuers.specs.Strings.{string_at};
 
+mod cut;
+
+pub use cut::Strings;
 use octets::sums_to;
 use rules::MOST_ISSUERS;
 
@@ -27,6 +31,18 @@ pub fn string_of<'a>(lengths: &[usize], bytes: &'a [u8], k: usize) -> &'a [u8]
     }
     let start = lengths[..k].iter().sum();
     &bytes[start..start + lengths[k]]
+}
+
+// The strings one by one; none where the lengths are wrong.
+#[tactic(auto, using(crate::proofs::Laws::laws))]
+pub fn strings_of<'a>(lengths: &'a [usize], bytes: &'a [u8]) -> Option<Strings<'a>>
+    ensures { MatchOption result (strings_of lengths.now bytes.now ≡ none) (λ strings. strings_of lengths.now bytes.now ≡ some (cut strings.lengths.now strings.bytes.now)) }
+{
+    if lengths_fit(lengths, bytes.len()) {
+        Some(Strings { lengths, bytes })
+    } else {
+        None
+    }
 }
 
 // Lengths that C hands over, no more than there may be issuers.
