@@ -10,7 +10,7 @@ use der::{read_element, tagged};
 use entries::{Unreadable, attribute, good_name, good_subtree};
 use octets::wide;
 
-// "tag 30", of each of the three strings: where the content starts of the one element that fills the string.
+// "tag 30": where the content starts of the one element that fills a string.
 fn content(s: &[u8]) -> Result<usize, Unreadable>
     ensures { result ≡ content_at s.now }
 {
