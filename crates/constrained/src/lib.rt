@@ -191,7 +191,7 @@ impl<'a> Identifier<'a> {
             return false;
         };
         match self.form {
-            NameForm::Srv => srv::in_subtree(text, self.name.text, self.name.dot),
+            NameForm::Srv => srv::in_subtree(text, self.name),
             NameForm::Dns => dns::dns_within(text, self.name.text),
         }
     }
@@ -205,7 +205,7 @@ impl<'a> Identifier<'a> {
             return false;
         };
         match self.form {
-            NameForm::Srv => srv::in_subtree(text, self.name.text, self.name.dot),
+            NameForm::Srv => srv::in_subtree(text, self.name),
             NameForm::Dns => dns::dns_reaches(text, self.name.text),
         }
     }
