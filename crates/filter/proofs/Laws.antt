@@ -73,40 +73,19 @@ module _ (s : List ℕ) (start end : ℕ) (table : List ℕ) where
         let k : at ≡ end = omega (arith, run.order) in
         left table (within_self table) (rw (k, no_items read_name s end))
 
-    module _ (more : at < end) (n : ℕ) (n_is : n ≡ end_of (element_at s at end)) (r : ℕ) (r_is : r ≡ text_place (tagged_text 0x82) s at n) where
+    module _ (more : at < end) (n : ℕ) (n_is : n ≡ end_of (element_at s at end)) (r : std.Option ℕ) (r_is : r ≡ text_place (tagged_text 0x82) s at n) where
       -- an entry that a table has, or that is no dNSName, and the entries past it
-      passed : (t : List ℕ) → ((text : List ℕ) → r ≤ n → text ≡ slice r n s → has t (key_of (noted_text text)) ≡ true)
+      passed : (t : List ℕ) → ((x : ℕ) (text : List ℕ) → r ≡ Some x → x ≤ n → text ≡ slice x n s → has t (key_of (noted_text text)) ≡ true)
           → has_all t (items_in read_name s n end) ≡ true → has_all t (items_in read_name s at end) ≡ true
       unfolding has_all has_name
       passed t h e =
           with_entry s at end run more n n_is λ m p i.
           let fits = step_fits read_name s at end run more n n_is in
           let room = entry_room s at end run more n n_is in
-          let here : where_given (tagged_text 0x82 m) (λ text. has t (key_of (noted_text text))) ≡ true =
-          by_cases (leb r n)
-          (λ f.
-          let k = leb-true r n f in
-          rw (text_there (tagged_text 0x82) s at n r r_is m p (own_tagged 0x82) (omega arith) fits k) (h (slice r n s) k refl))
-          (λ f. rw (text_not_there (tagged_text 0x82) s at n r r_is m p (leb-false r n f))) in
-          rw (i, here) e
-
-      -- another name
-      pub noted_other : n < r → NotedLeft s start end table n
-      unfolding NotedLeft
-      noted_other h t w e = left t w (passed t (λ text k f. absurd (omega arith)) e)
-
-      -- a dNSName, which is noted
-      pub noted_text_lem : r ≤ n → (k b : ℕ) → k ≡ key_of (noted_text (take (n - r) (drop r s))) → k / 8 < length table → b ≡ 2 ^ (k % 8)
-          → NotedLeft s start end (set table (k / 8) (bit_or (get_or table (k / 8) 0) b)) n
-      unfolding NotedLeft
-      noted_text_lem h k b k_is fits b_is t w e =
-          let w' : Within (noted table k fits) t = rw b_is at w in
-          left t (within_noted table k fits t w')
-          (passed t
-          (λ text _ f.
-          let key : k ≡ key_of (noted_text text) = k_is ∙ rw (f, part_is s r n h) in
-          rw (← key) (has_within (noted table k fits) t w' k (has_noted table k fits))) e)
-
+          let low : at ≤ n = omega arith in
+          let go : (o : std.Option ℕ) → r ≡ o → where_given (tagged_text 0x82 m) (λ text. has t (key_of (noted_text text))) ≡ true =
+          λ o f. elim o as (λ o. r ≡ o → where_given (tagged_text 0x82 m) (λ text. has t (key_of (noted_text text))) ≡ true) [] f in
+          rw (i, go r refl) e
 -- ---- a whole SAN
 
 module _ (s table : List ℕ) (e : Element) (e_is : e ≡ element_at s 0 (length s)) where
