@@ -8,7 +8,7 @@ ghost use Rattle.der.specs.Runs.{Run, validated, names_of, items_in};
 ghost use Rattle.filter.specs.Keys.{keys, byte_at, word_at, sum_of, key_of, noted_text, has, has_all, may_match};
 
 use der::{element_end, read_element};
-use dns::past_star;
+use dns::begins_wild;
 use entries::tagged_text;
 use octets::Dotted;
 use words::{long, word};
@@ -62,9 +62,10 @@ fn key(s: &[u8]) -> usize
 fn name_key(text: &[u8]) -> usize
     ensures { (result ≡ key_of (noted_text text.now)) × (result < keys) }
 {
-    match past_star(text) {
-        Some(rest) => key(rest),
-        None => key(text),
+    if begins_wild(text) {
+        key(&text[2..])
+    } else {
+        key(text)
     }
 }
 
@@ -84,6 +85,7 @@ fn bit(k: usize) -> u8
 }
 
 // The keys of the dNSNames among the entries from `start` to `end` are noted; what is noted already stays.
+#[tactic(auto, using(entries::proofs::Steps::steps, entries::proofs::Steps::names, crate::proofs::Laws::walk))]
 fn note_in(san: &[u8], start: usize, end: usize, table: &mut [u8; TABLE_SIZE])
     requires { Run read_name san.now start end }
     ensures { has_all table.new (items_in read_name san.now start end) ≡ true }
@@ -100,6 +102,7 @@ fn note_in(san: &[u8], start: usize, end: usize, table: &mut [u8; TABLE_SIZE])
 }
 
 // The keys of a SAN's dNSNames are noted, in one walk.
+#[tactic(auto, using(crate::proofs::Laws::whole))]
 pub fn note(san: &[u8], table: &mut [u8; TABLE_SIZE])
     requires { validated read_san san.now ≡ true }
     ensures { has_all table.new (names_of read_san san.now) ≡ true }
@@ -111,7 +114,7 @@ pub fn note(san: &[u8], table: &mut [u8; TABLE_SIZE])
 
 // Whether a dNSName that is noted may match the domain of a reference.
 pub fn may_match(table: &[u8; TABLE_SIZE], domain: Dotted<'_>) -> bool
-    ensures { result ≡ may_match table.now domain.text.now }
+    ensures { result ≡ may_match table.now domain.entry.text.now }
 {
     is_noted(table, key(domain.text))
         || domain
