@@ -25,7 +25,7 @@ fn text_matches(r: &Reference<'_>, text: &[u8]) -> bool
     match r.kind {
         Kind::Srv => srv::service_matches(r.service, r.domain.text, text),
         Kind::Uri => uri::scheme_matches(r.service, r.domain.text, text),
-        Kind::Dns | Kind::Cn => dns::domain_matches(r.domain.text, r.domain.dot, text),
+        Kind::Dns | Kind::Cn => dns::domain_matches(r.domain, text),
     }
 }
 
