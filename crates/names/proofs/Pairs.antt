@@ -280,15 +280,17 @@ module _ (s : List ℕ) where
 
       module _ (before : at ≤ last) (good : Bool) (is_good : good ≡ every zero? (marks s) at (at + 16)) where
         pub pairs_fail : good ≡ false → false ≡ domain s
-        pairs_fail e = step_fails zero? (marks s) 0 (last + 16) fits 16 last at refl inv before good is_good e ∙ by_marks
+        pairs_fail e = step_fails zero? (marks s) 0 (last + 16) fits 0 16 last at refl inv before good is_good e ∙ by_marks
 
         pub pairs_next : good ≡ true → Left zero? (marks s) 0 (last + 16) 0 (at + 16)
-        pairs_next e = step_next zero? (marks s) 0 (last + 16) fits 16 last at refl inv before good is_good e
+        pairs_next e = step_next zero? (marks s) 0 (last + 16) fits 0 16 last at refl inv before good is_good e
 
       -- the last sixteen
       module _ (r : Bool) (is_r : r ≡ every zero? (marks s) last (last + 16)) where
         pub pairs_end : last ≤ at → at ≤ last + 16 → r ≡ domain s
-        pairs_end past within = step_end zero? (marks s) 0 (last + 16) fits 16 last at refl inv r is_r (omega arith) past within ∙ by_marks
+        pairs_end past within =
+            let w = step_end zero? (marks s) 0 (last + 16) fits 0 16 last at refl inv (omega arith) past within in
+            is_r ∙ rw (every_none zero? (marks s) 0 0 (omega arith)) at w ∙ by_marks
 
     pub pairs_near : first ≡ true → (last at : ℕ) → last + 17 ≡ length s → Left zero? (marks s) 0 (last + 16) 0 at → at < last → last ≤ at + 16
         → (good : Bool) → good ≡ every zero? (marks s) at (at + 16) → good ≡ true

@@ -144,9 +144,9 @@ pub fn scheme(s: &[u8]) -> bool
 pub fn domain_within(subtree: &[u8], name: &[u8]) -> bool
     ensures { result ≡ rules.domain_within subtree.now name.now }
 {
-    match name.len().checked_sub(subtree.len()) {
-        None => false,
-        Some(0) => octets::same_text(subtree, name),
-        Some(at) => name[at - 1] == b'.' && octets::same_text(subtree, &name[at..]),
+    if name.len() <= subtree.len() {
+        return name.len() == subtree.len() && octets::same_text(subtree, name);
     }
+    let at = name.len() - subtree.len();
+    name[at - 1] == b'.' && octets::same_text(subtree, &name[at..])
 }

@@ -1,5 +1,5 @@
 -- What each function of the crate returns.
-use Prim.Native.Nat.{ℕ, suc, ◌+◌, ◌-◌, ◌*◌, ◌<◌, ◌≤◌}
+use Prim.Native.Nat.{ℕ, suc, ◌+◌, ◌-◌, ◌*◌, ◌/◌, ◌<◌, ◌≤◌}
 use mathlib.Core.Path.{◌≡◌, refl, sym, ap, ap₂, ◌∙◌}
 use mathlib.Core.Bool.{Bool, true, false, not, ◌&&◌}
 use mathlib.Core.List.{List, [], ◌∷◌, ◌++◌}
@@ -15,7 +15,7 @@ use Rattle.rules.specs.Bytes.{all}
 use Rattle.words.specs.Words.{value, byte?, clear?, every, Number}
 use Rattle.words.proofs.Values.{each, value_clear, masked_or, value_append}
 use Rattle.words.proofs.Ranges.{slice_cut}
-use Rattle.words.proofs.Every.{all_from_list, all_append, every_overlap, Left, left_begin, step_fails, step_next, step_end}
+use Rattle.words.proofs.Every.{every_none, all_from_list, all_append, every_overlap, Left, left_begin, step_fails, step_next, step_end}
 
 number_none : (s : List ℕ) (at : ℕ) → Number 0 s at 0
 unfolding value
@@ -134,30 +134,32 @@ module _ (p : ℕ → Bool) (s : List ℕ) (start end : ℕ) (fits : end ≤ len
       e ∙ rw z (every_overlap p s start (end - 16) (start + 16) end (omega arith) (omega arith) (omega arith) fits)
 
   -- 32 at a time, in two parts of sixteen
-  pub from_start : start ≤ end → Left p s start end start start
-  from_start h = left_begin p s start end start fits (omega arith) h
+  pub walk_begin : start ≤ end → Left p s start end start (start + 32 * 0)
+  walk_begin h =
+      let z : start + 32 * 0 ≡ start = omega arith in
+      rw z (left_begin p s start end start fits (omega arith) h)
 
-  module _ (last at : ℕ) (is_last : last + 32 ≡ end) (inv : Left p s start end start at) where
-    module _ (before : at < last) (fine : Bool) (is_fine : fine ≡ every p s at (at + 16) && every p s (at + 16) (at + 16 + 16)) where
-      whole : fine ≡ every p s at (at + 32)
-      whole = is_fine ∙ both16 p s at (omega arith)
+  module _ (k : ℕ) (long : 32 ≤ end - start) (inv : Left p s start end start (start + 32 * k)) where
+    module _ (h : k < (end - start - 1) / 32) (fine : Bool)
+        (is_fine : fine ≡ every p s (start + 32 * k) (start + 32 * k + 16) && every p s (start + 32 * k + 16) (start + 32 * k + 16 + 16)) where
+      whole : fine ≡ every p s (start + 32 * k) (start + 32 * k + 32)
+      whole = is_fine ∙ both16 p s (start + 32 * k) (omega arith)
 
-      pub sixteen_fails : not fine ≡ true → false ≡ every p s start end
-      sixteen_fails e = step_fails p s start end fits 32 last at is_last inv (omega arith) fine whole (not-true fine e)
+      pub walk_fails : not fine ≡ true → false ≡ every p s start end
+      walk_fails e = step_fails p s start end fits start 32 (end - 32) (start + 32 * k) (omega arith) inv (omega arith) fine whole (not-true fine e)
 
-      pub sixteen_next : not fine ≡ false → Left p s start end start (at + 32)
-      sixteen_next e = step_next p s start end fits 32 last at is_last inv (omega arith) fine whole (not-false fine e)
+      pub walk_next : not fine ≡ false → Left p s start end start (start + 32 * (k + 1))
+      walk_next e =
+          let z : start + 32 * (k + 1) ≡ start + 32 * k + 32 = omega arith in
+          rw z (step_next p s start end fits start 32 (end - 32) (start + 32 * k) (omega arith) inv (omega arith) fine whole (not-false fine e))
 
-    pub last_end : start ≤ last → last ≤ at → at ≤ end → (r : Bool)
-        → r ≡ every p s last (last + 16) && every p s (last + 16) (last + 16 + 16) → r ≡ every p s start end
-    last_end from past within r e = step_end p s start end fits 32 last at is_last inv r (e ∙ both16 p s last (omega arith)) from past within
-
-  -- the last 32, where they begin among those that were tested last
-  pub near_end : (last at : ℕ) → last + 32 ≡ end → Left p s start end start at → start ≤ last → at < last → last ≤ at + 32
-      → (fine : Bool) → fine ≡ every p s at (at + 16) && every p s (at + 16) (at + 16 + 16) → fine ≡ true
-      → (r : Bool) → r ≡ every p s last (last + 16) && every p s (last + 16) (last + 16 + 16) → r ≡ every p s start end
-  near_end last at is_last inv from before near fine is_fine f r e =
-      last_end last (at + 32) is_last (sixteen_next last at is_last inv before fine is_fine (rw f refl)) from near (omega arith) r e
+    -- the last 32
+    pub walk_end : k ≤ (end - start - 1) / 32 → (end - start - 1) / 32 ≤ k → (r : Bool)
+        → r ≡ every p s (end - 32) (end - 32 + 16) && every p s (end - 16) (end - 16 + 16) → r ≡ every p s start end
+    walk_end h l r e =
+        let z : end - 16 ≡ end - 32 + 16 = omega arith in
+        let w = step_end p s start end fits start 32 (end - 32) (start + 32 * k) (omega arith) inv (omega arith) (omega arith) (omega arith) in
+        rw z at e ∙ both16 p s (end - 32) (omega arith) ∙ rw (every_none p s start start (omega arith)) at w
 
 -- ---- every byte, by one test of it or another
 
@@ -179,8 +181,8 @@ pub ruleset laws = (
   few_is,
   eight_overlap,
   sixteen_overlap,
-  from_start,
-  sixteen_fails,
-  sixteen_next,
-  last_end,
+  walk_begin,
+  walk_fails,
+  walk_next,
+  walk_end,
 )
