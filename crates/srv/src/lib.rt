@@ -36,18 +36,14 @@ pub fn srv_id(s: &[u8]) -> bool
 }
 
 // "An SRVName here has one of three texts: `_service`, `_service.domain`, `domain`."
-#[tactic(auto, using(crate::proofs::Prefixed::restriction_bare, crate::proofs::Prefixed::restriction_service, crate::proofs::Prefixed::restriction_parts))]
+#[tactic(auto, using(crate::proofs::Prefixed::restriction_bare, crate::proofs::Prefixed::restriction_is))]
 pub fn restriction(s: &[u8]) -> bool
     ensures { result ≡ rules.restriction s.now }
 {
     match past_underscore(s) {
         Some(rest) => {
             let rest = Dotted::new(rest);
-            if rest.has_dot() {
-                parts(rest)
-            } else {
-                names::service(rest.text)
-            }
+            names::service(rest.first_label()) && rest.past_dot().is_none_or(names::domain)
         }
         None => names::domain(s),
     }
