@@ -1,4 +1,4 @@
-// Bytes and DER elements put into a lent buffer. Each function puts its bytes at a place, and gives the place past them.
+// Bytes and DER elements put into a lent buffer, from left to right.
 #![tactic(auto)]
 
 ghost use Rattle.std.specs.Prelude.{◌≡◌, ◌<◌, ◌≤◌, ◌+◌, length};
@@ -20,41 +20,53 @@ pub fn element_size(n: usize) -> usize
     }
 }
 
-// A text.
-#[tactic(auto, using(crate::proofs::Laws::put_whole), unfolding(crate::specs::Output::Fits))]
-pub fn put_text(buffer: &mut [u8], at: usize, text: &[u8]) -> usize
-    requires { Fits buffer.old at text.now }
-    ensures { Put buffer.old at text.now buffer.new result }
-{
-    let end = at + text.len();
-    buffer[at..end].copy_from_slice(text);
-    end
+// A lent buffer that is written from left to right, and the place to go on at.
+#[derive(Drop)]
+pub struct Out<'a> {
+    pub buffer: &'a mut [u8],
+    pub at: usize,
 }
 
-// The bytes of an element before its content. "Every length is definite and shortest: one byte to 127; 81 and a byte from 128 to 255;
-// 82 and two bytes from 256."
-#[tactic(auto, using(crate::proofs::Laws::laws))]
-pub fn put_start(buffer: &mut [u8], at: usize, tag: u8, n: usize) -> usize
-    requires n_bound { n < 65536 }
-    requires fits { Fits buffer.old at (start tag n) }
-    ensures { Put buffer.old at (start tag n) buffer.new result }
-{
-    if n < 128 {
-        put_text(buffer, at, &[tag, n as u8])
-    } else if n < 256 {
-        put_text(buffer, at, &[tag, 0x81, n as u8])
-    } else {
-        put_text(buffer, at, &[tag, 0x82, (n / 256) as u8, (n % 256) as u8])
+impl Out<'_> {
+    // Puts a text.
+    #[tactic(auto, using(crate::proofs::Laws::put_whole), unfolding(crate::specs::Output::Fits))]
+    pub fn put_text(&mut self, text: &[u8])
+        requires { Fits self.old.buffer.now self.old.at text.now }
+        ensures put { Put self.old.buffer.now self.old.at text.now self.new.buffer.now self.new.at }
+        ensures same_buffer { self.new.buffer.ghost_name ≡ self.old.buffer.ghost_name }
+    {
+        let end = self.at + text.len();
+        self.buffer[self.at..end].copy_from_slice(text);
+        self.at = end;
     }
-}
 
-// An element.
-#[tactic(auto, using(crate::proofs::Laws::laws))]
-pub fn put_element(buffer: &mut [u8], at: usize, tag: u8, content: &[u8]) -> usize
-    requires content_len_bound { length content.now < 65536 }
-    requires fits { Fits buffer.old at (element tag content.now) }
-    ensures { Put buffer.old at (element tag content.now) buffer.new result }
-{
-    let next = put_start(buffer, at, tag, content.len());
-    put_text(buffer, next, content)
+    // Puts the bytes of an element before its content. "Every length is definite and shortest: one byte to 127; 81 and a byte from 128 to
+    // 255; 82 and two bytes from 256."
+    #[tactic(auto, using(crate::proofs::Laws::laws))]
+    pub fn put_start(&mut self, tag: u8, n: usize)
+        requires n_bound { n < 65536 }
+        requires fits { Fits self.old.buffer.now self.old.at (start tag n) }
+        ensures put { Put self.old.buffer.now self.old.at (start tag n) self.new.buffer.now self.new.at }
+        ensures same_buffer { self.new.buffer.ghost_name ≡ self.old.buffer.ghost_name }
+    {
+        if n < 128 {
+            self.put_text(&[tag, n as u8]);
+        } else if n < 256 {
+            self.put_text(&[tag, 0x81, n as u8]);
+        } else {
+            self.put_text(&[tag, 0x82, (n / 256) as u8, (n % 256) as u8]);
+        }
+    }
+
+    // Puts an element.
+    #[tactic(auto, using(crate::proofs::Laws::laws))]
+    pub fn put_element(&mut self, tag: u8, content: &[u8])
+        requires content_len_bound { length content.now < 65536 }
+        requires fits { Fits self.old.buffer.now self.old.at (element tag content.now) }
+        ensures put { Put self.old.buffer.now self.old.at (element tag content.now) self.new.buffer.now self.new.at }
+        ensures same_buffer { self.new.buffer.ghost_name ≡ self.old.buffer.ghost_name }
+    {
+        self.put_start(tag, content.len());
+        self.put_text(content);
+    }
 }

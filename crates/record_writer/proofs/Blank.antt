@@ -1,19 +1,18 @@
 -- What three stores and two puts make of 320 zeros.
 use Prim.Native.Nat.{ℕ, zero, suc, ◌+◌, ◌-◌, ◌≤◌}
 use mathlib.Core.Path.{◌≡◌, refl, ap, ◌∙◌}
-use mathlib.Core.Bool.{true}
 use mathlib.Core.List.{List, [], ◌∷◌, ◌++◌, append_assoc}
 use native.Mathlib.Nat.{sub-zero, zero-sub, suc-sub-suc}
 use native.Mathlib.Omega.{arith}
 use lib.ListN.{length, drop, set, replicate, replicate-append-replicate}
 use lib.Seq.{drop-drop, take_at, drop_at}
-use lib.Dec.{leb}
-use borrow.Author.Tests.{leb-true}
-use Rattle.rules.specs.Numbers.{service_size, domain_size, record_size}
+use borrow.Rule.Slice.PartMut.{put_mid}
+use Rattle.rules.specs.Numbers.{service_size, domain_size}
 use Rattle.rules.specs.Records.{reference}
 use Rattle.rules.specs.Writing.{field, record_for}
 use Rattle.reading.specs.Written.{field_length}
-use Rattle.output.specs.Output.{pasted, Fits, Put}
+use Rattle.output.specs.Output.{pasted, Put}
+use Rattle.output.proofs.Laws.{put_whole}
 
 drop_replicate : (k n : ℕ) → drop {A = ℕ} k (replicate n 0) ≡ replicate (n - k) 0
 drop_replicate zero n = rw sub-zero
@@ -35,23 +34,15 @@ unfolding pasted field
 put_in_last h s at size h_is fits =
     rw (take_at h (replicate size 0) at h_is, ← drop-drop, drop_at h (replicate size 0) at h_is, drop_replicate) (simp append_assoc)
 
--- the puts lie within the record
-pub fits_service : (b s : List ℕ) (at : ℕ) → length b ≡ record_size → length s ≤ service_size → leb at 257 ≡ true → Fits b at s
-unfolding Fits
-fits_service b s at e h f = omega (arith, leb-true at 257 f)
-
-pub fits_domain : (b d : List ℕ) (at : ℕ) → length b ≡ record_size → length d ≤ domain_size → leb at 67 ≡ true → Fits b at d
-unfolding Fits
-fits_domain b d at e h f = omega (arith, leb-true at 67 f)
-
+-- the service and the domain in the places of as many zeros
 pub built :
-    (kind n m : ℕ) (s d a b : List ℕ) (i j : ℕ) → Put (set (set (set (replicate 320 0) 0 kind) 2 n) 3 m) 4 s a i → Put a 67 d b j
-    → n ≡ length s → m ≡ length d → length s ≤ service_size → length d ≤ domain_size → b ≡ record_for (reference kind s d)
+    (kind : ℕ) (s d x y : List ℕ) (n m : ℕ) → x ≡ s → y ≡ d → n ≡ length s → m ≡ length d → length s ≤ service_size → length d ≤ domain_size
+    → put_mid 67 m (put_mid 4 n (set (set (set (replicate 320 0) 0 kind) 2 (length s)) 3 (length d)) x) y ≡ record_for (reference kind s d)
 unfolding record_for Put
-built kind n m s d a b i j f g e k hs hd =
-    let h : List ℕ = kind ∷ 0 ∷ n ∷ m ∷ [] in
+built kind s d x y n m e f g k hs hd =
+    let h : List ℕ = kind ∷ 0 ∷ length s ∷ length d ∷ [] in
     let e₂ : length (h ++ field 63 s) ≡ 67 = simp (field_length 63 s hs) in
-    g.0
-    ∙ ap (λ (x : List ℕ). pasted x 67 d) (f.0 ∙ put_in_zeros h s 4 63 253 refl hs ∙ rw (← append_assoc))
+    (put_whole _ 67 m d y f k).0
+    ∙ ap (λ (b : List ℕ). pasted b 67 d) ((put_whole _ 4 n s x e g).0 ∙ put_in_zeros h s 4 63 253 refl hs ∙ rw (← append_assoc))
     ∙ put_in_last (h ++ field 63 s) d 67 253 e₂ hd
-    ∙ rw (append_assoc, e, k)
+    ∙ rw append_assoc

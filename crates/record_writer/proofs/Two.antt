@@ -2,9 +2,10 @@
 use Prim.Native.Nat.{ℕ, ◌≤◌}
 use mathlib.Core.Path.{◌≡◌, refl, sym, ◌∙◌}
 use mathlib.Core.Bool.{Bool, true}
-use mathlib.Core.List.{List, [], ◌∷◌}
+use mathlib.Core.List.{List, [], ◌∷◌, append-nil}
+use native.Mathlib.Nat.{add-zero}
 use native.Mathlib.Omega.{arith}
-use lib.ListN.{length, get_or, take, drop, length-drop}
+use lib.ListN.{length, get_or, take, drop, length-drop, take-append-drop}
 use lib.Seq.{take_all}
 use Rattle.rules.specs.Bytes.{cut, sum}
 use Rattle.rules.specs.Numbers.{service_size, domain_size}
@@ -58,8 +59,8 @@ record_long kind ns ts h e g =
     rw (is kind ns ts _ _ two) (sym (record_length (reference kind _ _) f.0 f.1))
 
 -- nothing is put before the records
-pub put_none : (b : List ℕ) → Put b 0 [] b 0
+pub put_none : (b : List ℕ) (at : ℕ) → Put b at [] b at
 unfolding Put pasted
-put_none b = (refl, refl)
+put_none b at = (sym (rw (add-zero, append-nil) (take-append-drop at b)), rw add-zero)
 
 pub ruleset laws = (taken, texts_short, fits_bytes, put_bytes, record_long, put_none)

@@ -9,7 +9,7 @@ ghost use Rattle.rules.specs.Writing.{request, record_for, record_writer, writte
 ghost use Rattle.record_writer.specs.Names.{reference_of_texts, no_head};
 ghost use Rattle.record_writer.specs.Parts.{record_parts};
 
-use output::put_text;
+use output::Out;
 use records::good_reference;
 use rules::{
     DOMAIN_AT, DOMAIN_LENGTH_AT, RECORD_SIZE, RECORDS_LIMIT, SERVICE_AT, SERVICE_LENGTH_AT, Written,
@@ -17,7 +17,6 @@ use rules::{
 use writing::{Name, Writer, told, write_list};
 
 // "the latter starts from a blank record of 320 zero bytes"
-#[tactic(auto, using(crate::proofs::Laws::laws))]
 fn record_bytes(kind: u8, service: &[u8], domain: &[u8]) -> [u8; 320]
     requires { (length service.now ≤ service_size) × (length domain.now ≤ domain_size) }
     ensures { result ≡ record_for (reference kind service.now domain.now) }
@@ -26,8 +25,8 @@ fn record_bytes(kind: u8, service: &[u8], domain: &[u8]) -> [u8; 320]
     bytes[0] = kind;
     bytes[SERVICE_LENGTH_AT] = service.len() as u8;
     bytes[DOMAIN_LENGTH_AT] = domain.len() as u8;
-    put_text(&mut bytes, SERVICE_AT, service);
-    put_text(&mut bytes, DOMAIN_AT, domain);
+    bytes[SERVICE_AT..SERVICE_AT + service.len()].copy_from_slice(service);
+    bytes[DOMAIN_AT..DOMAIN_AT + domain.len()].copy_from_slice(domain);
     bytes
 }
 
@@ -77,13 +76,11 @@ impl Writer for Records {
         content
     }
 
-    fn put_head(_buffer: &mut [u8], _content: usize) -> usize {
-        0
-    }
+    fn put_head(_out: &mut Out<'_>, _content: usize) {}
 
-    fn put(buffer: &mut [u8], at: usize, name: Name<'_>) -> usize {
+    fn put(out: &mut Out<'_>, name: Name<'_>) {
         let (service, domain) = service_and_domain(name);
-        put_text(buffer, at, &record_bytes(name.kind, service, domain))
+        out.put_text(&record_bytes(name.kind, service, domain));
     }
 
     ghost parts = { record_parts };

@@ -9,22 +9,23 @@ ghost use Rattle.output.specs.Output.{Fits, Put, start};
 ghost use Rattle.san_writer.specs.Names.{identifier_of, identifier_bytes};
 ghost use Rattle.san_writer.specs.Parts.{san_parts};
 
-use output::{element_size, put_element, put_start};
+use output::{Out, element_size};
 use rules::{DNS, SAN_LIMIT, SRV, SRV_OID, URI, Written};
 use writing::{Name, Writer, told, write_list};
 
-// An SRVName: "an OID element (tag 06 ..), then tag A0 holding exactly one element".
-fn put_srv(buffer: &mut [u8], at: usize, text: &[u8]) -> usize
+// Puts an SRVName: "an OID element (tag 06 ..), then tag A0 holding exactly one element".
+fn put_srv(out: &mut Out<'_>, text: &[u8])
     requires text_len_bound { length text.now ≤ 16384 }
-    requires fits { Fits buffer.old at (write_name (other srv_oid 0x16 text.now)) }
-    ensures { Put buffer.old at (write_name (other srv_oid 0x16 text.now)) buffer.new result }
+    requires fits { Fits out.old.buffer.now out.old.at (write_name (other srv_oid 0x16 text.now)) }
+    ensures put { Put out.old.buffer.now out.old.at (write_name (other srv_oid 0x16 text.now)) out.new.buffer.now out.new.at }
+    ensures same_buffer { out.new.buffer.ghost_name ≡ out.old.buffer.ghost_name }
 {
     let inner = element_size(text.len());
     let wrapped = element_size(inner);
-    let oid = put_start(buffer, at, 0xA0, 10 + wrapped);
-    let value = put_element(buffer, oid, 0x06, &SRV_OID);
-    let name = put_start(buffer, value, 0xA0, inner);
-    put_element(buffer, name, 0x16, text)
+    out.put_start(0xA0, 10 + wrapped);
+    out.put_element(0x06, &SRV_OID);
+    out.put_start(0xA0, inner);
+    out.put_element(0x16, text);
 }
 
 // The names of a SAN value: each has one text.
@@ -74,15 +75,15 @@ impl Writer for San {
         element_size(content)
     }
 
-    fn put_head(buffer: &mut [u8], content: usize) -> usize {
-        put_start(buffer, 0, 0x30, content)
+    fn put_head(out: &mut Out<'_>, content: usize) {
+        out.put_start(0x30, content);
     }
 
-    fn put(buffer: &mut [u8], at: usize, name: Name<'_>) -> usize {
+    fn put(out: &mut Out<'_>, name: Name<'_>) {
         match name.kind {
-            DNS => put_element(buffer, at, 0x82, name.texts),
-            SRV => put_srv(buffer, at, name.texts),
-            _ => put_element(buffer, at, 0x86, name.texts),
+            DNS => out.put_element(0x82, name.texts),
+            SRV => put_srv(out, name.texts),
+            _ => out.put_element(0x86, name.texts),
         }
     }
 

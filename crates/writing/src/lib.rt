@@ -17,6 +17,7 @@ mod list;
 
 pub use list::Name;
 use list::Names;
+use output::Out;
 use rules::{ACCEPTED, BUFFER_TOO_SHORT, EMPTY_LIST, NOT_A_NAME, RESULT_TOO_LONG, Written};
 
 // Why a writer refuses.
@@ -112,18 +113,20 @@ pub trait Writer {
         ensures { result ≡ length (head content) + content };
 
     // Puts what stands before the names.
-    fn put_head(buffer: &mut [u8], content: usize) -> usize
+    fn put_head(out: &mut Out<'_>, content: usize)
         requires small { content ≤ LIMIT }
-        requires fits { Fits buffer.old 0 (head content) }
-        ensures { Put buffer.old 0 (head content) buffer.new result };
+        requires fits { Fits out.old.buffer.now out.old.at (head content) }
+        ensures put { Put out.old.buffer.now out.old.at (head content) out.new.buffer.now out.new.at }
+        ensures same_buffer { out.new.buffer.ghost_name ≡ out.old.buffer.ghost_name };
 
     // Puts a name.
-    fn put(buffer: &mut [u8], at: usize, name: Name<'_>) -> usize
+    fn put(out: &mut Out<'_>, name: Name<'_>)
         requires many { length name.lengths.now ≡ PER }
         requires good { described.good (made make name) ≡ true }
         requires short { length name.texts.now ≤ LIMIT }
-        requires fits { Fits buffer.old at (bytes (made make name)) }
-        ensures { Put buffer.old at (bytes (made make name.entry)) buffer.new result };
+        requires fits { Fits out.old.buffer.now out.old.at (bytes (made make name)) }
+        ensures put { Put out.old.buffer.now out.old.at (bytes (made make name.entry)) out.new.buffer.now out.new.at }
+        ensures same_buffer { out.new.buffer.ghost_name ≡ out.old.buffer.ghost_name };
 
     ghost parts: { Parts described make bytes head PER LIMIT };
 }
@@ -164,18 +167,18 @@ fn content_size<W: Writer>(mut names: Names<'_>) -> Result<usize, WriteRefusal>
 }
 
 // Puts the names, side by side.
-fn put_names<W: Writer>(buffer: &mut [u8], mut at: usize, mut names: Names<'_>) -> usize
+fn put_names<W: Writer>(out: &mut Out<'_>, mut names: Names<'_>)
     requires per { names.per ≡ W.PER }
     requires good { all W.described.good (asked W.described (listed names)) ≡ true }
     requires short { length names.texts.now ≤ W.LIMIT }
-    requires fits { Fits buffer.old at (run W.bytes (asked W.described (listed names))) }
-    ensures { Put buffer.old at (run W.bytes (asked W.described (listed names.entry))) buffer.new result }
+    requires fits { Fits out.old.buffer.now out.old.at (run W.bytes (asked W.described (listed names))) }
+    ensures put { Put out.old.buffer.now out.old.at (run W.bytes (asked W.described (listed names.entry))) out.new.buffer.now out.new.at }
+    ensures same_buffer { out.new.buffer.ghost_name ≡ out.old.buffer.ghost_name }
 {
     while let Some((name, others)) = names.split_first() {
-        at = W::put(buffer, at, name);
+        W::put(out, name);
         names = others;
     }
-    at
 }
 
 // Judges a list, measures the result, and puts it from left to right: "refuse, in this order, an empty list, a text that isn't a name of
@@ -198,7 +201,8 @@ pub fn write_list<W: Writer>(
     }
     let content = content_size::<W>(names)?;
     let size = fitted(W::LIMIT, W::whole_size(content), buffer.len())?;
-    let start = W::put_head(buffer, content);
-    put_names::<W>(buffer, start, names);
+    let mut out = Out { buffer, at: 0 };
+    W::put_head(&mut out, content);
+    put_names::<W>(&mut out, names);
     Ok(size)
 }

@@ -10,7 +10,8 @@ abbrev pub invariant-loop-name : goal.invariant-loop-name
 invariant-loop-name g l =
     let w = g.W.Writer in
     (l.names.per ≡ w.PER) × (all w.described.good (asked w.described (listed l.names)) ≡ true) × (length l.names.texts.now ≤ w.LIMIT)
-    × Left l.initial.buffer l.initial.at (run w.bytes (asked w.described (listed l.initial.names))) l.buffer l.at (run w.bytes (asked w.described (listed l.names)))
+    × (l.out.buffer.ghost_name ≡ l.initial.out.buffer.ghost_name)
+    × Left l.initial.out.buffer.now l.initial.out.at (run w.bytes (asked w.described (listed l.initial.names))) l.out.buffer.now l.out.at (run w.bytes (asked w.described (listed l.names)))
 
 abbrev pub decreases-loop-name : goal.decreases-loop-name
 decreases-loop-name g l = length l.names.kinds.now

@@ -47,25 +47,26 @@ returns-in_err-size-clause-buffer_after g c =
     let some : length c.args.kinds.now ≡ 0 → ⊥ = search rules in
     (unfit g.met.W.Writer.parts (request c.args.kinds.now c.args.lengths.now c.args.texts.now) c.args.buffer.now some _ c.PER.ensures c.in_ok-names.names c.in_ok-names.ensures.same c.in_ok-names.ensures.cases _ c.all_good.ensures c.if-not-all_good.false _ _ _ c.in_ok-content.ensures.0 c.whole_size.ensures c.LIMIT.ensures _ c.in_err-size.ensures).1
 
-pub put_head-start-requires-clause-fits : goal.put_head-start-requires-clause-fits
-put_head-start-requires-clause-fits g c =
+pub put_head-requires-clause-fits : goal.put_head-requires-clause-fits
+put_head-requires-clause-fits g c =
     let some : length c.args.kinds.now ≡ 0 → ⊥ = search rules in
     fits_head g.met.W.Writer.parts (request c.args.kinds.now c.args.lengths.now c.args.texts.now) c.args.buffer.now some _ c.PER.ensures c.in_ok-names.names c.in_ok-names.ensures.same c.in_ok-names.ensures.cases _ c.all_good.ensures c.if-not-all_good.false _ _ _ c.in_ok-content.ensures.0 c.whole_size.ensures c.LIMIT.ensures _ c.in_ok-size.ensures
 
 pub put_names-requires-clause-fits : goal.put_names-requires-clause-fits
 put_names-requires-clause-fits g c =
     let some : length c.args.kinds.now ≡ 0 → ⊥ = search rules in
-    fits_names g.met.W.Writer.parts (request c.args.kinds.now c.args.lengths.now c.args.texts.now) c.args.buffer.now some _ c.PER.ensures c.in_ok-names.names c.in_ok-names.ensures.same c.in_ok-names.ensures.cases _ c.all_good.ensures c.if-not-all_good.false _ _ _ c.in_ok-content.ensures.0 c.whole_size.ensures c.LIMIT.ensures _ c.in_ok-size.ensures _ _ c.put_head-start.ensures
+    fits_names g.met.W.Writer.parts (request c.args.kinds.now c.args.lengths.now c.args.texts.now) c.args.buffer.now some _ c.PER.ensures c.in_ok-names.names c.in_ok-names.ensures.same c.in_ok-names.ensures.cases _ c.all_good.ensures c.if-not-all_good.false _ _ _ c.in_ok-content.ensures.0 c.whole_size.ensures c.LIMIT.ensures _ c.in_ok-size.ensures _ _ c.put_head.ensures.put
 
 pub returns-clause-value : goal.returns-clause-value
 returns-clause-value g c =
     let some : length c.args.kinds.now ≡ 0 → ⊥ = search rules in
-    (all_put g.met.W.Writer.parts (request c.args.kinds.now c.args.lengths.now c.args.texts.now) c.args.buffer.now some _ c.PER.ensures c.in_ok-names.names c.in_ok-names.ensures.same c.in_ok-names.ensures.cases _ c.all_good.ensures c.if-not-all_good.false _ _ _ c.in_ok-content.ensures.0 c.whole_size.ensures c.LIMIT.ensures _ c.in_ok-size.ensures _ _ c.put_head-start.ensures _ _ c.put_names.ensures).0
+    (all_put g.met.W.Writer.parts (request c.args.kinds.now c.args.lengths.now c.args.texts.now) c.args.buffer.now some _ c.PER.ensures c.in_ok-names.names c.in_ok-names.ensures.same c.in_ok-names.ensures.cases _ c.all_good.ensures c.if-not-all_good.false _ _ _ c.in_ok-content.ensures.0 c.whole_size.ensures c.LIMIT.ensures _ c.in_ok-size.ensures _ _ c.put_head.ensures.put _ _ c.put_names.ensures.put).0
 
 pub returns-clause-buffer_after : goal.returns-clause-buffer_after
 returns-clause-buffer_after g c =
     let some : length c.args.kinds.now ≡ 0 → ⊥ = search rules in
-    (all_put g.met.W.Writer.parts (request c.args.kinds.now c.args.lengths.now c.args.texts.now) c.args.buffer.now some _ c.PER.ensures c.in_ok-names.names c.in_ok-names.ensures.same c.in_ok-names.ensures.cases _ c.all_good.ensures c.if-not-all_good.false _ _ _ c.in_ok-content.ensures.0 c.whole_size.ensures c.LIMIT.ensures _ c.in_ok-size.ensures _ _ c.put_head-start.ensures _ _ c.put_names.ensures).1
+    let put = (all_put g.met.W.Writer.parts (request c.args.kinds.now c.args.lengths.now c.args.texts.now) c.args.buffer.now some _ c.PER.ensures c.in_ok-names.names c.in_ok-names.ensures.same c.in_ok-names.ensures.cases _ c.all_good.ensures c.if-not-all_good.false _ _ _ c.in_ok-content.ensures.0 c.whole_size.ensures c.LIMIT.ensures _ c.in_ok-size.ensures _ _ c.put_head.ensures.put _ _ c.put_names.ensures.put).1 in
+    search rules
 
 pub returns-then-is_empty-clause-value : goal.returns-then-is_empty-clause-value
 returns-then-is_empty-clause-value g c =
