@@ -82,12 +82,12 @@ module _ (source : Source) (s : List ℕ) where
           rw (← k) (omega (arith, d.0), d.1)
 
       read : c.end ≤ length s → c.at ≤ c.end → (e : Answer) → element_at s c.at c.end ≡ e
-          → or_else None e (λ x. or_else None (shape_at source s x.tag x.start x.next) (λ y. Some (shown y.kind (row_start source c.at x.start) x.next c.group (after_name source s x.next c.end c.group)))) ≡ Some t
+          → or_else None e (λ x. or_else None (shape_at source s x) (λ y. Some (shown y.kind (row_start source c.at x.start) x.next c.group (after_name source s x.next c.end c.group)))) ≡ Some t
           → Goal
       read fits h (Err why) f e = never e
       read fits h (Ok x) f e =
           let d = found_read s c.end fits c.at h x f in
-          named x (omega (arith, d.head, d.body)) (omega (arith, d.rest)) (shape_at source s x.tag x.start x.next) e
+          named x (omega (arith, d.head, d.body)) (omega (arith, d.rest)) (shape_at source s x) e
 
       past : (q : Bool) → ltb c.end c.at ≡ q → c.end ≤ length s → cond q None (entry source s c.at c.end c.group) ≡ Some t → Goal
       past true f fits e = never e

@@ -139,7 +139,7 @@ module _ (source : Source) (s : List ℕ) (c : Cursor) where
         pub element_later : c.at ≤ x.next
         element_later = omega (arith, element.head, element.body)
 
-        module _ (m : Result Name Unreadable) (m_is : m ≡ shape_at source s x.tag x.start x.next) where
+        module _ (m : Result Name Unreadable) (m_is : m ≡ shape_at source s x) where
           pub step_unreadable : (why : Unreadable) → m ≡ Err why → None ≡ step source s c
           unfolding step entry
           step_unreadable why f = rw (le-ltb (length s) c.end fits, le-ltb c.end c.at h, ← e_is, q, ← m_is, f)

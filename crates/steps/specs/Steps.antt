@@ -49,11 +49,11 @@ start source s = or_else (cursor 0 0 0) (tagged_at s 0 (length s) 0x30) (first_i
 
 -- ---- a name, and what follows it
 
--- an entry, an attribute, a subtree, from where the content of its element starts
-abbrev pub shape_at : Source → List ℕ → ℕ → ℕ → ℕ → Result Name Unreadable
-shape_at San s t b n = name_at s t b n
-shape_at Subject s t b n = attribute_at s t b n
-shape_at Constraints s t b n = subtree_at s t b n
+-- an element as an entry, an attribute, a subtree
+abbrev pub shape_at : Source → List ℕ → Element → Result Name Unreadable
+shape_at San s e = name_at s e.tag e.start e.next
+shape_at Subject s e = attribute_at s e.tag e.start e.next
+shape_at Constraints s e = subtree_at s e.tag e.start e.next
 
 -- where the row starts of a name whose element starts at `at`, and that element's content at b: the row of a subtree is the
 -- GeneralName's, which starts where the subtree's content does
@@ -78,7 +78,7 @@ after_name Constraints s n end group = subtree_next s n end group
 unfoldable pub entry : Source → List ℕ → ℕ → ℕ → ℕ → Option Step
 entry source s at end group =
     or_else None (element_at s at end) (λ e.
-    or_else None (shape_at source s e.tag e.start e.next) (λ m.
+    or_else None (shape_at source s e) (λ m.
     Some (shown m.kind (row_start source at e.start) e.next group (after_name source s e.next end group))))
 
 -- none where the cursor does not lie in the slice

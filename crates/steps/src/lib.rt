@@ -114,16 +114,17 @@ impl Source {
         }
     }
 
-    // What an element's content is as a name, from `start` to `end`.
-    fn shape(self, s: &[u8], tag: u8, start: usize, end: usize) -> Result<Name, Unreadable>
-        requires start_le_end { start ≤ end }
-        requires end_in_bounds { end ≤ length s.now }
-        ensures { result ≡ shape_at self s.now tag start end }
+    // What an element of a part is as a name.
+    fn shape(self, s: &[u8], element: Element) -> Result<Name, Unreadable>
+        requires start_le_next { element.start ≤ element.next }
+        requires next_in_bounds { element.next ≤ length s.now }
+        ensures { result ≡ shape_at self s.now element }
     {
+        let Element { tag, start, next } = element;
         match self {
-            Source::San => name_shape(s, tag, start, end),
-            Source::Subject => attribute(s, tag, start, end),
-            Source::Constraints => subtree_shape(s, tag, start, end),
+            Source::San => name_shape(s, tag, start, next),
+            Source::Subject => attribute(s, tag, start, next),
+            Source::Constraints => subtree_shape(s, tag, start, next),
         }
     }
 
@@ -168,9 +169,7 @@ impl Source {
             return None;
         }
         let element = read_element(s, c.at, c.end).ok()?;
-        let name = self
-            .shape(s, element.tag, element.start, element.next)
-            .ok()?;
+        let name = self.shape(s, element).ok()?;
         let start = self.row_start(c.at, element.start);
         Some(Step {
             row: Row {
