@@ -1,6 +1,7 @@
 -- The rows that a walk shows from a cursor on.
 use Rattle.std.specs.Prelude.{ℕ, ◌-◌, List, [], ◌∷◌, length, Option, Some, None}
 use Prim.Native.Nat.{zero, suc}
+use Rattle.std.specs.Borrow.{Bor}
 use Rattle.rules.specs.declared.Row.{Row}
 use Rattle.steps.specs.Steps.{start, step}
 use Rattle.steps.specs.declared.Cursor.{Cursor}
@@ -28,3 +29,7 @@ rows_of source s = rows_from source s (start source s)
 -- the rows of a walk that is under way
 abbrev pub rows_left : Rows → List Row
 rows_left r = rows_from r.source r.bytes.now r.cursor
+
+-- the walk over a string, from its first name on
+abbrev pub walk_of : Source → Bor (List ℕ) → Rows
+walk_of source bytes = record { source = source; bytes = bytes; cursor = start source bytes.now }

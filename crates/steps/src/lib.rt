@@ -4,7 +4,7 @@
 ghost use Rattle.std.specs.Prelude.{◌≤◌, ◌≡◌, length};
 ghost use Rattle.std.specs.Iterator.{YieldsFirst, item_count};
 ghost use Rattle.steps.specs.Steps.{source_of, cursor, next_group, set_opened, side_opened, after_name, shape_at, row_start, start, step};
-ghost use Rattle.steps.specs.Rows.{rows_left, rows_of};
+ghost use Rattle.steps.specs.Rows.{rows_left, walk_of};
 
 use der::{Element, read_element, tagged};
 use entries::{Name, Unreadable, attribute, name_shape, subtree_shape};
@@ -184,7 +184,7 @@ impl Source {
 
     // The rows of the names, one after the other.
     pub fn rows<'a>(self, bytes: &'a [u8]) -> Rows<'a>
-        ensures { rows_left result ≡ rows_of self bytes.now }
+        ensures { result ≡ walk_of self bytes.entry }
     {
         Rows {
             source: self,
