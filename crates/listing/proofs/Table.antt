@@ -42,7 +42,7 @@ use Rattle.steps.specs.declared.Source.TheVariants.{San, Subject, Constraints}
 use Rattle.listing.specs.declared.ListRefusal.{ListRefusal}
 use Rattle.listing.specs.declared.ListRefusal.TheVariants.{Refused, TableTooShort}
 use Rattle.listing.specs.declared.Names.{Names}
-use Rattle.listing.specs.Plans.{unreadable_of, rows_on, opened_for, opened_of, plan_for, plan_of, told}
+use Rattle.listing.specs.Plans.{unreadable_of, rows_on, opened_for, opened_of, plan_for, plan_of, table_with, told}
 use Rattle.listing.proofs.Planning.{none_in}
 
 -- ---- a string that is named by a number
@@ -138,7 +138,7 @@ module _ (which : ℕ) (bytes : Bor (List ℕ)) (table : List Row) where
   pub record Fits (names : Names) : Type 0 where
     pub listing : record { answer = 0; count = names.count } ≡ listing_on which bytes.now (length table)
     pub rows : length (rows_left names.rows) ≤ length table
-    pub filled : rows_left names.rows ++ drop (length (rows_left names.rows)) table ≡ table_on which bytes.now table
+    pub filled : table_with (rows_left names.rows) table ≡ table_on which bytes.now table
 
   pub list_fits : (names : Names) → plan_of source bytes (length table) ≡ Ok names → Fits names
   unfolding plan_of plan_for opened_of opened_for listing_on table_on listed_of table_after
@@ -213,7 +213,7 @@ module _ (rows : List Row) (s t u : Enumerate Rows) (walk : rows_left s.iter ≡
       (h, ap (λ (p : ℕ × Row). p.0) e ∙ omega arith, ap (λ (p : ℕ × Row). p.1) e)
 
   -- at the end all rows are taken
-  pub all_taken : (r : std.Option (ℕ × Row)) → r ≡ None → Takes t r u → (table : List Row) → filled (length xs) rows table ≡ rows ++ drop (length rows) table
+  pub all_taken : (r : std.Option (ℕ × Row)) → r ≡ None → Takes t r u → (table : List Row) → filled (length xs) rows table ≡ table_with rows table
   all_taken r is takes table =
       let k : length xs ≡ length rows = (YieldsList-end road xs t took r u is takes).1 ∙ length_numbered 0 rows in
       rw (k, take-length rows)

@@ -1,10 +1,11 @@
-// The listing of a certificate string into a table that the caller lends. `planned` judges the string and the table; `list` alone
+// The listing of a certificate string into a table that the caller lends. `planned` judges the string and the table; `fill` alone
 // touches the table.
 #![tactic(auto, using(crate::proofs::Laws::laws))]
 
-ghost use Rattle.std.specs.Prelude.{◌≡◌, length};
+ghost use Rattle.std.specs.Prelude.{◌≤◌, ◌≡◌, length};
 ghost use Rattle.reading.specs.Calls.{listing_on, table_on};
-ghost use Rattle.listing.specs.Plans.{limit_of, unreadable_of, count_of, opened_of, plan_of, told};
+ghost use Rattle.listing.specs.Plans.{limit_of, unreadable_of, count_of, opened_of, plan_of, table_with, told};
+ghost use Rattle.steps.specs.Rows.{rows_left};
 
 use entries::Unreadable;
 use rules::{Listed, Refusal, Row};
@@ -116,6 +117,16 @@ pub fn planned<'a>(bytes: &'a [u8], lent: usize, source: Source) -> Result<Names
     Ok(names)
 }
 
+// The first rows of a table are those of a walk. "Rows past the count .. stay."
+fn fill(table: &mut [Row], rows: Rows)
+    requires { length (rows_left rows) ≤ length table.now }
+    ensures { table.new ≡ table_with (rows_left rows.entry) table.old }
+{
+    for (i, row) in rows.enumerate() {
+        table[i] = row;
+    }
+}
+
 // "Rows (kind, start, length, group) go into a table lent as a slice of such records, one for each SAN entry, attribute or
 // subtree in byte order." "Rows past the count, and all rows after a refusal, stay." `which` is 0 for the SAN, 1 for the subject, any
 // other number for the constraints.
@@ -123,15 +134,14 @@ pub fn list(table: &mut [Row], bytes: &[u8], which: usize) -> Listed
     ensures { (result ≡ listing_on which bytes.now (length table.old))
         × (table.new ≡ table_on which bytes.now table.old) }
 {
-    let names = match planned(bytes, table.len(), which.into()) {
-        Ok(names) => names,
-        Err(refusal) => return refusal.into(),
-    };
-    for (i, row) in names.rows.enumerate() {
-        table[i] = row;
-    }
-    Listed {
-        answer: rules::ACCEPTED,
-        count: names.count,
+    match planned(bytes, table.len(), which.into()) {
+        Ok(names) => {
+            fill(table, names.rows);
+            Listed {
+                answer: rules::ACCEPTED,
+                count: names.count,
+            }
+        }
+        Err(refusal) => refusal.into(),
     }
 }
