@@ -5,83 +5,30 @@ use mathlib.Core.Bool.{Bool, true, false, cond, ◌&&◌}
 use mathlib.Core.Option.{Option, none, some}
 use mathlib.Core.List.{List, [], ◌∷◌}
 use native.Mathlib.Omega.{arith}
-use lib.Dec.{eqb}
 use lib.ListN.{length}
-use borrow.Author.Tests.{lt-ltb, le-ltb, eq-eqb, ne_eqb}
-use Rattle.rules.specs.Numbers.{san_limit, subject_limit, constraints_limit}
+use denote.Ref.{Bor}
+use borrow.Author.Tests.{lt-ltb, le-ltb}
+use Rattle.std.specs.Prelude.{Result, Ok, Err}
+use Rattle.std.specs.Result.{IsErrAnd}
 use Rattle.rules.specs.Seen.{Seen, too_long, unreadable, listed, Input, san_input, subject_input, constraints_input}
 use Rattle.rules.specs.Listing.{rows_seen}
+use Rattle.rules.specs.declared.Refusal.{Refusal}
+use Rattle.rules.specs.declared.Refusal.TheVariants.{InputTooLong}
 use Rattle.rules.specs.declared.Row.{Row}
 use Rattle.reading.specs.Strings.{read_san, read_subject, read_constraints}
 use Rattle.reading.specs.OneReading.{ReadsExactly}
 use Rattle.reading.proofs.OneReading.{san_reading, subject_reading, constraints_reading}
 use Rattle.reading.specs.Views.{absent, listed_or, seen_of, seen_san, seen_subject, seen_constraints}
-use Rattle.reading.specs.Calls.{refusal_of, seen_rows}
-use Rattle.strings.specs.Counts.{place_count}
-use Rattle.strings.specs.declared.Count.{Count}
-use Rattle.strings.specs.declared.Count.TheVariants.{Of, Unreadable}
-use Rattle.steps.specs.Steps.{cursor, san_start, san_step, subject_start, subject_step, constraints_start, constraints_step}
-use Rattle.steps.specs.declared.Cursor.{Cursor}
-use Rattle.steps.specs.declared.Step.{Step}
-use Rattle.listing.specs.declared.Plan.{Plan}
-use Rattle.listing.specs.Steps.{first_of, step_of}
-use Rattle.listing.specs.Plans.{limit_of, names_of, count_of, plan, refused, opened_for, opened_of, plan_for, plan_of}
-
--- ---- by the number of the string
-
-module _ (which : ℕ) where
-  pub limit_san : which ≡ 0 → san_limit ≡ limit_of which
-  unfolding limit_of
-  limit_san e = rw (eq-eqb which 0 e)
-
-  pub limit_subject : which ≡ 1 → subject_limit ≡ limit_of which
-  unfolding limit_of
-  limit_subject e = rw e
-
-  pub limit_constraints : (which ≡ 0 → ⊥) → (which ≡ 1 → ⊥) → constraints_limit ≡ limit_of which
-  unfolding limit_of
-  limit_constraints e f = rw (ne_eqb which 0 e, ne_eqb which 1 f)
-
-  pub refusal_san : which ≡ 0 → 3 ≡ refusal_of which
-  unfolding refusal_of
-  refusal_san e = rw (eq-eqb which 0 e)
-
-  pub refusal_subject : which ≡ 1 → 4 ≡ refusal_of which
-  unfolding refusal_of
-  refusal_subject e = rw e
-
-  pub refusal_constraints : (which ≡ 0 → ⊥) → (which ≡ 1 → ⊥) → 5 ≡ refusal_of which
-  unfolding refusal_of
-  refusal_constraints e f = rw (ne_eqb which 0 e, ne_eqb which 1 f)
-
--- ---- the first name, and the name at a cursor
-
-module _ (which : ℕ) (s : List ℕ) where
-  module _ (r : Cursor) where
-    pub first_entry : which ≡ 0 → r ≡ san_start s → r ≡ first_of which s
-    unfolding first_of
-    first_entry e r_is = r_is ∙ rw (eq-eqb which 0 e)
-
-    pub first_attribute : which ≡ 1 → r ≡ subject_start s → r ≡ first_of which s
-    unfolding first_of
-    first_attribute e r_is = r_is ∙ rw e
-
-    pub first_subtree : (which ≡ 0 → ⊥) → (which ≡ 1 → ⊥) → r ≡ constraints_start s → r ≡ first_of which s
-    unfolding first_of
-    first_subtree e f r_is = r_is ∙ rw (ne_eqb which 0 e, ne_eqb which 1 f)
-
-  module _ (c : Cursor) (r : Step) where
-    pub entry_step : which ≡ 0 → r ≡ san_step s c → r ≡ step_of which s c
-    unfolding step_of
-    entry_step e r_is = r_is ∙ rw (eq-eqb which 0 e)
-
-    pub attribute_step : which ≡ 1 → r ≡ subject_step s c → r ≡ step_of which s c
-    unfolding step_of
-    attribute_step e r_is = r_is ∙ rw e
-
-    pub subtree_step : (which ≡ 0 → ⊥) → (which ≡ 1 → ⊥) → r ≡ constraints_step s c → r ≡ step_of which s c
-    unfolding step_of
-    subtree_step e f r_is = r_is ∙ rw (ne_eqb which 0 e, ne_eqb which 1 f)
+use Rattle.entries.specs.declared.Unreadable.{Unreadable}
+use Rattle.strings.specs.Counts.{Count, place_count}
+use Rattle.steps.specs.Rows.{walk_of}
+use Rattle.steps.specs.declared.Rows.{Rows}
+use Rattle.steps.specs.declared.Source.{Source}
+use Rattle.steps.specs.declared.Source.TheVariants.{San, Subject, Constraints}
+use Rattle.listing.specs.declared.ListRefusal.{ListRefusal}
+use Rattle.listing.specs.declared.ListRefusal.TheVariants.{Refused, TableTooShort}
+use Rattle.listing.specs.declared.Names.{Names}
+use Rattle.listing.specs.Plans.{limit_of, unreadable_of, rows_on, names_of, count_of, opened_for, opened_of, plan_for, plan_of}
 
 -- ---- how many names
 
@@ -98,34 +45,30 @@ there I (x ∷ s) e = go I.optional
     go true = refl
     go false = refl
 
-module _ (which : ℕ) (s : List ℕ) where
-  pub san_absent : which ≡ 0 → length s ≡ 0 → Of 0 ≡ count_of which s
-  unfolding count_of
-  san_absent e f = rw (eq-eqb which 0 e, none_in s f)
+module _ (source : Source) (s : List ℕ) (r : Count) where
+  pub subject_counted : source ≡ Subject → r ≡ place_count (read_subject s) → r ≡ count_of source s
+  subject_counted e r_is = r_is ∙ rw e
 
-  pub san_counted : which ≡ 0 → (length s ≡ 0 → ⊥) → (r : Count) → r ≡ place_count (read_san s) → r ≡ count_of which s
-  unfolding count_of
-  san_counted e f r r_is = r_is ∙ rw (eq-eqb which 0 e, there san_input s f)
+  pub none_counted : (source ≡ Subject → ⊥) → length s ≡ 0 → Ok 0 ≡ count_of source s
+  none_counted e f = rw (none_in s f) (go source e)
+    where
+      go : (source : Source) → (source ≡ Subject → ⊥) → Ok 0 ≡ count_of source []
+      go San e = refl
+      go Subject e = absurd (e refl)
+      go Constraints e = refl
 
-  pub subject_counted : which ≡ 1 → (r : Count) → r ≡ place_count (read_subject s) → r ≡ count_of which s
-  unfolding count_of
-  subject_counted e r r_is = r_is ∙ rw e
+  pub san_counted : source ≡ San → (length s ≡ 0 → ⊥) → r ≡ place_count (read_san s) → r ≡ count_of source s
+  san_counted e f r_is = r_is ∙ rw (e, there san_input s f)
 
-  module _ (e : which ≡ 0 → ⊥) (f : which ≡ 1 → ⊥) where
-    pub constraints_absent : length s ≡ 0 → Of 0 ≡ count_of which s
-    unfolding count_of
-    constraints_absent g = rw (ne_eqb which 0 e, ne_eqb which 1 f, none_in s g)
-
-    pub constraints_counted : (length s ≡ 0 → ⊥) → (r : Count) → r ≡ place_count (read_constraints s) → r ≡ count_of which s
-    unfolding count_of
-    constraints_counted g r r_is = r_is ∙ rw (ne_eqb which 0 e, ne_eqb which 1 f, there constraints_input s g)
+  pub constraints_counted : source ≡ Constraints → (length s ≡ 0 → ⊥) → r ≡ place_count (read_constraints s) → r ≡ count_of source s
+  constraints_counted e f r_is = r_is ∙ rw (e, there constraints_input s f)
 
 -- ---- what is seen, by the count
 
 -- the rows seen, by how many there are
 data Counted : Seen Row → Count → Type 0 where
-  no_list : Counted unreadable Unreadable
-  rows_of : (rows : List Row) → Counted (listed rows) (Of (length rows))
+  no_list : (why : Unreadable) → Counted unreadable (Err why)
+  rows_of : (rows : List Row) → Counted (listed rows) (Ok (length rows))
 
 module _ {Name : Type 0} (I : Input Name) (read : List ℕ → Option (List Name)) (R : ReadsExactly I.grammar read) (s : List ℕ) where
   string_long : I.limit < length s → rows_seen I.grammar (seen_of I read s) ≡ too_long
@@ -136,70 +79,65 @@ module _ {Name : Type 0} (I : Input Name) (read : List ℕ → Option (List Name
   unfolding seen_of rows_seen place_count
   string_counted h = rw (le-ltb I.limit (length s) h) (go (absent I s) (read s))
     where
-      go : (a : Bool) (o : Option (List Name)) → Counted (rows_seen I.grammar (cond a (listed []) (listed_or o))) (cond a (Of 0) (place_count o))
+      go : (a : Bool) (o : Option (List Name)) → Counted (rows_seen I.grammar (cond a (listed []) (listed_or o))) (cond a (Ok 0) (place_count o))
       go true o = rw (← R.count []) (rows_of (I.grammar.rows []))
-      go false none = no_list
+      go false none = no_list _
       go false (some l) = rw (← R.count l) (rows_of (I.grammar.rows l))
 
-module _ (which : ℕ) (s : List ℕ) where
-  seen_long : limit_of which < length s → seen_rows which s ≡ too_long
-  unfolding seen_rows limit_of seen_san seen_subject seen_constraints
-  seen_long h = go (eqb which 0) (eqb which 1) refl refl
-    where
-      go : (t u : Bool) → eqb which 0 ≡ t → eqb which 1 ≡ u → seen_rows which s ≡ too_long
-      go true u e f = rw e (string_long san_input read_san san_reading s (rw e at h))
-      go false true e f = rw (e, f) (string_long subject_input read_subject subject_reading s (rw (e, f) at h))
-      go false false e f = rw (e, f) (string_long constraints_input read_constraints constraints_reading s (rw (e, f) at h))
+seen_long : (source : Source) (s : List ℕ) → limit_of source < length s → rows_on source s ≡ too_long
+unfolding seen_san seen_subject seen_constraints
+seen_long San s h = string_long san_input read_san san_reading s h
+seen_long Subject s h = string_long subject_input read_subject subject_reading s h
+seen_long Constraints s h = string_long constraints_input read_constraints constraints_reading s h
 
-  seen_counted : length s ≤ limit_of which → Counted (seen_rows which s) (count_of which s)
-  unfolding seen_rows limit_of count_of seen_san seen_subject seen_constraints
-  seen_counted h = go (eqb which 0) (eqb which 1) refl refl
-    where
-      go : (t u : Bool) → eqb which 0 ≡ t → eqb which 1 ≡ u → Counted (seen_rows which s) (count_of which s)
-      go true u e f = rw e (string_counted san_input read_san san_reading s (rw e at h))
-      go false true e f = rw (e, f) (string_counted subject_input read_subject subject_reading s (rw (e, f) at h))
-      go false false e f = rw (e, f) (string_counted constraints_input read_constraints constraints_reading s (rw (e, f) at h))
+seen_counted : (source : Source) (s : List ℕ) → length s ≤ limit_of source → Counted (rows_on source s) (count_of source s)
+unfolding seen_san seen_subject seen_constraints
+seen_counted San s h = string_counted san_input read_san san_reading s h
+seen_counted Subject s h = string_counted subject_input read_subject subject_reading s h
+seen_counted Constraints s h = string_counted constraints_input read_constraints constraints_reading s h
 
--- ---- the plan for a table with room
+-- ---- what is opened
 
-pub refused_is : (answer count : ℕ) → plan answer count 0 (cursor 0 0 0) ≡ refused answer count
-unfolding refused
-refused_is answer count = refl
-
-module _ (which : ℕ) (s : List ℕ) (limit : ℕ) (limit_is : limit ≡ limit_of which) where
-  pub open_long : limit < length s → (p : Plan) → p ≡ refused 7 0 → p ≡ opened_of which s
+module _ (source : Source) (bytes : Bor (List ℕ)) (limit : ℕ) (limit_is : limit ≡ limit_of source) where
+  pub open_long : limit < length bytes.now → Err InputTooLong ≡ opened_of source bytes
   unfolding opened_of opened_for
-  open_long h p p_is = p_is ∙ rw (seen_long which s (rw limit_is at h))
+  open_long h = rw (seen_long source bytes.now (rw limit_is at h))
 
-  module _ (h : length s ≤ limit) (c : Count) (c_is : c ≡ count_of which s) where
-    counted : Counted (seen_rows which s) c
-    counted = rw c_is (seen_counted which s (rw limit_is at h))
+  module _ (h : length bytes.now ≤ limit) (c : Count) (c_is : c ≡ count_of source bytes.now) where
+    counted : Counted (rows_on source bytes.now) c
+    counted = rw c_is (seen_counted source bytes.now (rw limit_is at h))
 
-    pub open_unreadable : c ≡ Unreadable → (answer : ℕ) → answer ≡ refusal_of which → (p : Plan) → p ≡ refused answer 0 → p ≡ opened_of which s
+    pub open_unreadable : (why : Unreadable) → c ≡ Err why → (refusal : Refusal) → refusal ≡ unreadable_of source → Err refusal ≡ opened_of source bytes
     unfolding opened_of opened_for
-    open_unreadable e answer answer_is p p_is = p_is ∙ go (seen_rows which s) c counted e
+    open_unreadable why e refusal refusal_is = rw refusal_is (go (rows_on source bytes.now) c counted e)
       where
-        go : (x : Seen Row) (c : Count) → Counted x c → c ≡ Unreadable → refused answer 0 ≡ opened_for (refusal_of which) x (first_of which s)
-        go _ _ no_list e = rw answer_is
+        go : (x : Seen Row) (c : Count) → Counted x c → c ≡ Err why → Err (unreadable_of source) ≡ opened_for source bytes x
+        go _ _ (no_list w) e = refl
         go _ _ (rows_of rows) e = let z : ◌≡◌ {A = ℕ} 0 1 = cc in absurd (omega arith)
 
-    pub open_rows : (k : ℕ) → c ≡ Of k → (f : Cursor) → f ≡ first_of which s → plan 0 k k f ≡ opened_of which s
+    pub open_rows : (k : ℕ) → c ≡ Ok k → (walk : Rows) → walk ≡ walk_of source bytes → Ok (record { count = k; rows = walk }) ≡ opened_of source bytes
     unfolding opened_of opened_for
-    open_rows k e f f_is = rw f_is (go (seen_rows which s) c counted e)
+    open_rows k e walk walk_is = rw walk_is (go (rows_on source bytes.now) c counted e)
       where
-        go : (x : Seen Row) (c : Count) → Counted x c → c ≡ Of k → plan 0 k k (first_of which s) ≡ opened_for (refusal_of which) x (first_of which s)
-        go _ _ no_list e = let z : ◌≡◌ {A = ℕ} 0 1 = cc in absurd (omega arith)
+        go : (x : Seen Row) (c : Count) → Counted x c → c ≡ Ok k → Ok (record { count = k; rows = walk_of source bytes }) ≡ opened_for source bytes x
+        go _ _ (no_list w) e = let z : ◌≡◌ {A = ℕ} 0 1 = cc in absurd (omega arith)
         go _ _ (rows_of rows) e =
             let i : length rows ≡ k = cc in
             rw i
 
 -- ---- and for the table that is lent
 
-module _ (which : ℕ) (s : List ℕ) (lent : ℕ) (o : Plan) (o_is : o ≡ opened_of which s) where
-  pub plan_short : lent < o.rows → (p : Plan) → p ≡ refused 8 o.rows → p ≡ plan_of which s lent
+module _ (source : Source) (bytes : Bor (List ℕ)) (lent : ℕ) (o : Result Names Refusal) (o_is : o ≡ opened_of source bytes) where
+  pub plan_refused : (why : Refusal) → o ≡ Err why → (r : Result Names ListRefusal) → IsErrAnd r (λ x. x ≡ Refused why) → r ≡ plan_of source bytes lent
   unfolding plan_of plan_for
-  plan_short h p p_is = p_is ∙ rw (← o_is, lt-ltb lent o.rows h)
+  plan_refused why e (Ok x) h = absurd h
+  plan_refused why e (Err r) r_is = rw (← o_is, e, r_is)
 
-  pub plan_whole : o.rows ≤ lent → o ≡ plan_of which s lent
-  unfolding plan_of plan_for
-  plan_whole h = rw (← o_is, le-ltb lent o.rows h)
+  module _ (x : Names) (e : o ≡ Ok x) where
+    pub plan_short : lent < x.count → Err (TableTooShort x.count) ≡ plan_of source bytes lent
+    unfolding plan_of plan_for
+    plan_short h = rw (← o_is, e, lt-ltb lent x.count h)
+
+    pub plan_whole : x.count ≤ lent → Ok x ≡ plan_of source bytes lent
+    unfolding plan_of plan_for
+    plan_whole h = rw (← o_is, e, le-ltb lent x.count h)

@@ -1,3 +1,2 @@
--- How a listing goes row by row, and what it answers and writes before it writes.
-pub mod Steps
+-- What a listing answers and writes, before it writes.
 pub mod Plans

@@ -1,168 +1,147 @@
-// The listing of a certificate string into a table that the caller lends. `planned` and `step_at` judge and read; `list` alone
-// touches the table: one loop, no branch. `which` is 0 for the SAN, 1 for the subject, any other number for the constraints.
-#![tactic(auto)]
+// The listing of a certificate string into a table that the caller lends. `planned` judges the string and the table; `fill` alone
+// touches the table.
+#![tactic(auto, using(crate::proofs::Laws::laws))]
 
-ghost use Rattle.std.specs.Prelude.{◌≡◌, length};
-ghost use Rattle.reading.specs.Calls.{refusal_of, listing_on, table_on};
-ghost use Rattle.listing.specs.Plans.{limit_of, count_of, refused, opened_of, plan_of};
-ghost use Rattle.listing.specs.Steps.{step_of, first_of};
+ghost use Rattle.std.specs.Prelude.{◌≤◌, ◌≡◌, length};
+ghost use Rattle.reading.specs.Calls.{listing_on, table_on};
+ghost use Rattle.listing.specs.Plans.{limit_of, unreadable_of, count_of, opened_of, plan_of, table_with, told};
+ghost use Rattle.steps.specs.Rows.{rows_left};
 
-use steps::{
-    Cursor, Step, constraints_start, constraints_step, san_start, san_step, subject_start,
-    subject_step,
-};
-use strings::{Count, constraints_count, san_count, subject_count};
+use entries::Unreadable;
+use rules::{Listed, Refusal, Row};
+use steps::{Rows, Source};
+use strings::{constraints_count, san_count, subject_count};
 
-// What the caller is told, how many rows are written (none on a refusal), and where the first name stands.
+// A readable string: how many names it has, and the walk over their rows.
 #[derive(Clone, Copy)]
-pub struct Plan {
-    pub listed: rules::Listed,
-    pub rows: usize,
-    pub first: Cursor,
+pub struct Names<'a> {
+    pub count: usize,
+    pub rows: Rows<'a>,
+}
+
+// Why nothing is listed.
+#[derive(Clone, Copy, Debug, PartialEq, Eq)]
+pub enum ListRefusal {
+    // Answers 7, 3, 4 and 5: the string is too long or unreadable.
+    Refused(Refusal),
+    // Answer 8, and how many rows are needed.
+    TableTooShort(usize),
+}
+
+impl From<Refusal> for ListRefusal {
+    ghost use Rattle.listing.specs.declared.ListRefusal.TheVariants.{Refused};
+
+    ghost from_gives = { λ why refusal. refusal ≡ Refused why };
+
+    fn from(why: Refusal) -> ListRefusal {
+        ListRefusal::Refused(why)
+    }
+}
+
+// What the caller is told of a refusal: "7, then 3, 4 or 5 (each with count 0), then 8 with the count needed".
+impl From<ListRefusal> for Listed {
+    ghost from_gives = { λ refusal listed. listed ≡ told refusal };
+
+    fn from(refusal: ListRefusal) -> Listed {
+        match refusal {
+            ListRefusal::Refused(why) => Listed {
+                answer: why.into(),
+                count: 0,
+            },
+            ListRefusal::TableTooShort(needed) => Listed {
+                answer: rules::TABLE_TOO_SHORT,
+                count: needed,
+            },
+        }
+    }
 }
 
 // "Longest inputs, in bytes: SAN 16,384; subject 4,096; constraints 16,384"
-fn limit(which: usize) -> usize
-    ensures { result ≡ limit_of which }
+fn limit(source: Source) -> usize
+    ensures { result ≡ limit_of source }
 {
-    if which == 0 {
-        return rules::SAN_LIMIT;
+    match source {
+        Source::San => rules::SAN_LIMIT,
+        Source::Subject => rules::SUBJECT_LIMIT,
+        Source::Constraints => rules::CONSTRAINTS_LIMIT,
     }
-    if which == 1 {
-        return rules::SUBJECT_LIMIT;
-    }
-    rules::CONSTRAINTS_LIMIT
 }
 
 // "3, 4 or 5"
-fn refusal(which: usize) -> usize
-    ensures { result ≡ refusal_of which }
+fn unreadable(source: Source) -> Refusal
+    ensures { result ≡ unreadable_of source }
 {
-    if which == 0 {
-        return rules::SAN_UNREADABLE;
+    match source {
+        Source::San => Refusal::SanUnreadable,
+        Source::Subject => Refusal::SubjectUnreadable,
+        Source::Constraints => Refusal::ConstraintsUnreadable,
     }
-    if which == 1 {
-        return rules::SUBJECT_UNREADABLE;
-    }
-    rules::CONSTRAINTS_UNREADABLE
 }
 
 // How many names a string has. "An absent string lists 0 rows."
-fn count_of(s: &[u8], which: usize) -> Count
-    ensures { result ≡ count_of which s.now }
+fn count(bytes: &[u8], source: Source) -> Result<usize, Unreadable>
+    ensures { result ≡ count_of source bytes.now }
 {
-    let n = s.len();
-    if which == 0 {
-        if n == 0 {
-            return Count::Of(0);
-        }
-        return san_count(s);
-    }
-    if which == 1 {
-        return subject_count(s);
-    }
-    if n == 0 {
-        return Count::Of(0);
-    }
-    constraints_count(s)
-}
-
-// Where the first name of a readable string stands.
-fn first_of(s: &[u8], which: usize) -> Cursor
-    ensures { result ≡ first_of which s.now }
-{
-    if which == 0 {
-        return san_start(s);
-    }
-    if which == 1 {
-        return subject_start(s);
-    }
-    constraints_start(s)
-}
-
-// The row of the name at a cursor, and the cursor of the next.
-pub fn step_at(bytes: &[u8], which: usize, c: Cursor) -> Step
-    ensures { result ≡ step_of which bytes.now c }
-{
-    if which == 0 {
-        return san_step(bytes, c);
-    }
-    if which == 1 {
-        return subject_step(bytes, c);
-    }
-    constraints_step(bytes, c)
-}
-
-// Nothing is written.
-fn refuse(answer: usize, count: usize) -> Plan
-    ensures { result ≡ refused answer count }
-{
-    Plan {
-        listed: rules::Listed {
-            answer: answer,
-            count: count,
-        },
-        rows: 0,
-        first: Cursor {
-            at: 0,
-            end: 0,
-            group: 0,
-        },
+    match source {
+        Source::Subject => subject_count(bytes),
+        _ if bytes.is_empty() => Ok(0),
+        Source::San => san_count(bytes),
+        Source::Constraints => constraints_count(bytes),
     }
 }
 
-// What a string answers by itself, for a table with room: "7, then 3, 4 or 5 (each with count 0)", else 0 and the count.
-pub fn opened(bytes: &[u8], which: usize) -> Plan
-    ensures { result ≡ opened_of which bytes.now }
+// A string by itself, for a table with room: "7, then 3, 4 or 5", else its names.
+pub fn opened<'a>(bytes: &'a [u8], source: Source) -> Result<Names<'a>, Refusal>
+    ensures { result ≡ opened_of source bytes.entry }
 {
-    let most = limit(which);
-    if bytes.len() > most {
-        return refuse(rules::INPUT_TOO_LONG, 0);
+    if bytes.len() > limit(source) {
+        return Err(Refusal::InputTooLong);
     }
-    let c = count_of(bytes, which);
-    let Count::Of(k) = c else {
-        let answer = refusal(which);
-        return refuse(answer, 0);
+    let Ok(count) = count(bytes, source) else {
+        return Err(unreadable(source));
     };
-    let first = first_of(bytes, which);
-    Plan {
-        listed: rules::Listed {
-            answer: rules::ACCEPTED,
-            count: k,
-        },
-        rows: k,
-        first: first,
-    }
+    Ok(Names {
+        count,
+        rows: source.rows(bytes),
+    })
 }
 
-// What a listing answers, for a table of `lent` rows. "The answer is 0 and the count; or 7, then 3, 4 or 5 (each with count 0),
-// then 8 with the count needed, given exactly when that exceeds the rows lent."
-pub fn planned(bytes: &[u8], lent: usize, which: usize) -> Plan
-    ensures { result ≡ plan_of which bytes.now lent }
+// The same for a table of `lent` rows: "then 8 with the count needed, given exactly when that exceeds the rows lent."
+pub fn planned<'a>(bytes: &'a [u8], lent: usize, source: Source) -> Result<Names<'a>, ListRefusal>
+    ensures { result ≡ plan_of source bytes.entry lent }
 {
-    let p = opened(bytes, which);
-    let k = p.rows;
-    if k > lent {
-        return refuse(rules::TABLE_TOO_SHORT, k);
+    let names = opened(bytes, source)?;
+    if names.count > lent {
+        return Err(ListRefusal::TableTooShort(names.count));
     }
-    p
+    Ok(names)
+}
+
+// The first rows of a table are those of a walk. "Rows past the count .. stay."
+fn fill(table: &mut [Row], rows: Rows)
+    requires { length (rows_left rows) ≤ length table.now }
+    ensures { table.new ≡ table_with (rows_left rows.entry) table.old }
+{
+    for (i, row) in rows.enumerate() {
+        table[i] = row;
+    }
 }
 
 // "Rows (kind, start, length, group) go into a table lent as a slice of such records, one for each SAN entry, attribute or
-// subtree in byte order." "Rows past the count, and all rows after a refusal, stay."
-pub fn list(table: &mut [rules::Row], bytes: &[u8], which: usize) -> rules::Listed
+// subtree in byte order." "Rows past the count, and all rows after a refusal, stay." `which` is 0 for the SAN, 1 for the subject, any
+// other number for the constraints.
+pub fn list(table: &mut [Row], bytes: &[u8], which: usize) -> Listed
     ensures { (result ≡ listing_on which bytes.now (length table.old))
         × (table.new ≡ table_on which bytes.now table.old) }
 {
-    let p = planned(bytes, table.len(), which);
-    let n = p.rows;
-    let mut c = p.first;
-    let mut i = 0;
-    while i < n {
-        let t = step_at(bytes, which, c);
-        table[i] = t.row;
-        c = t.next;
-        i += 1;
+    match planned(bytes, table.len(), which.into()) {
+        Ok(names) => {
+            fill(table, names.rows);
+            Listed {
+                answer: rules::ACCEPTED,
+                count: names.count,
+            }
+        }
+        Err(refusal) => refusal.into(),
     }
-    p.listed
 }

@@ -1,15 +1,19 @@
--- What each function of the crate returns, by its own tests: one set of laws for each string.
-use Rattle.der.proofs.Elements.{not_found}
-use Rattle.entries.proofs.Rules.{no_name}
-use Rattle.strings.proofs.Counting.{next_later, next_body, next_fits, outer_start}
-use Rattle.steps.proofs.Stepping.{stop_is, group_next, group_last, start_none, start_found, san_outside, san_past, san_within, san_none, san_malformed, san_shown}
-use Rattle.steps.proofs.Stepping.{set_none, set_found, attribute_last, attribute_next_lem, subject_start_none, subject_start_found, subject_outside, subject_past, subject_within, subject_none, subject_malformed, subject_shown}
-use Rattle.steps.proofs.Stepping.{side_none, side_found, subtree_last, subtree_next_lem, constraints_start_none, constraints_start_found, constraints_outside, constraints_past, constraints_within, constraints_none, constraints_malformed, constraints_shown}
+-- What each function of the crate returns, by its own tests.
+use Rattle.steps.proofs.Stepping.{source_san, source_subject, source_constraints, group_next, group_last, set_none, set_found, side_none, side_found, start_none, start_san, start_subject, start_constraints, start_fits, attribute_last, attribute_on, subtree_last, subtree_on, step_outside, step_past, step_none, element_body, element_fits, element_later, step_unreadable, step_shows}
+use Rattle.steps.proofs.Left.{left_none, left_more}
 
-pub ruleset places = (not_found, no_name, next_later, next_body, next_fits, outer_start)
+-- of numbers of strings and of groups
+pub ruleset numbers = (source_san, source_subject, source_constraints, group_next, group_last)
 
-pub ruleset laws = (places, stop_is, group_next, group_last, start_none, start_found, san_outside, san_past, san_within, san_none, san_malformed, san_shown)
+-- of the parts that names stand in
+pub ruleset parts = (set_none, set_found, side_none, side_found)
 
-pub ruleset subject_laws = (places, set_none, set_found, attribute_last, attribute_next_lem, subject_start_none, subject_start_found, subject_outside, subject_past, subject_within, subject_none, subject_malformed, subject_shown)
+pub ruleset starts = (start_none, start_san, start_subject, start_constraints, start_fits)
 
-pub ruleset constraints_laws = (places, side_none, side_found, subtree_last, subtree_next_lem, constraints_start_none, constraints_start_found, constraints_outside, constraints_past, constraints_within, constraints_none, constraints_malformed, constraints_shown)
+pub ruleset followers = (attribute_last, attribute_on, subtree_last, subtree_on)
+
+pub ruleset names = (step_outside, step_past, step_none, element_body, element_fits, element_later, step_unreadable, step_shows)
+
+pub ruleset lefts = (left_none, left_more)
+
+pub ruleset laws = (numbers, followers, lefts)

@@ -1,4 +1,6 @@
 -- Walks over lists of names that stand in groups: `subject_walk`, `constraints_walk`.
+use Rattle.std.specs.Prelude as std
+use Rattle.std.specs.Prelude.{Ok, Err, Some, None}
 use Rattle.std.specs.Prelude.{ℕ, suc, ◌+◌, ◌-◌, ◌%◌, ◌≤◌, ◌<◌, ◌≡◌, Bool, true, false, ◌&&◌, T, eqb}
 use Rattle.std.proofs.Math.Path.{refl, sym, ap, subst}
 use Rattle.std.proofs.Common.{subst₂, ◌∙◌, add-one}
@@ -8,7 +10,7 @@ use native.Mathlib.Omega.{arith}
 use Rattle.std.proofs.Math.ListN.{length}
 use Rattle.std.proofs.Math.Dec.{ltb→lt}
 use Rattle.std.proofs.Math.Seq.{slice, slice_empty, length-slice}
-use borrow.Author.Tests.{lt-ltb, le-ltb, eq-eqb, ne_eqb, eqb-true, eqb-false}
+use borrow.Author.Tests.{lt-ltb, le-ltb, eq-eqb, ne_eqb}
 use Rattle.rules.specs.Bytes.{some?, all, chain}
 use Rattle.rules.specs.Der.{header, run, Member, Group, groups, rows_of_members, rows_of_groups}
 use Rattle.rules.specs.San.{GeneralName, name_kind, write_name}
@@ -17,18 +19,20 @@ use Rattle.rules.specs.Constraints.{good_restriction, good_subtree, write_subtre
 use Rattle.rules.specs.declared.Row.{Row}
 use Rattle.reading.specs.Reader.{also, Raw, raw, write_raw, read_element, tagged, alone, items}
 use Rattle.reading.specs.Strings.{flat, number_from, read_attribute, in_order, read_set, read_sets, read_subject, name_of, read_name, read_subtree, read_side, rising, read_sides, read_constraints}
-use Rattle.reading.specs.Answers.{no_some, then_some, when_some, then_f_some, at_end_some, and_parts, is_true}
-use Rattle.reading.proofs.Runs.{items_end, items_some}
+use Rattle.reading.specs.Answers.{then_some, when_some, then_f_some, at_end_some, and_parts, is_true}
+use Rattle.reading.proofs.Runs.{items_end}
 use Rattle.reading.proofs.Codec.{also_c, items_c}
 use Rattle.reading.proofs.Codecs.{attribute_c, set_c, subtree_c, side_c, groups_numbered, groups_sides}
 use Rattle.der.specs.Places.{element_at, tag_fits, tagged_at}
 use Rattle.der.specs.Reads.{Read}
-use Rattle.der.specs.declared.Element.TheVariants.{Found}
-use Rattle.entries.specs.Entries.{text_tag_of, text_of, place_name, place_attribute, attribute_at, read_shape, subtree_at}
-use Rattle.entries.specs.declared.Name.TheVariants.{Is}
-use Rattle.steps.specs.Steps.{next_group, cursor, shown, set_opened, attribute_next, subject_start, subject_entry, subject_step, side_opened, subtree_next, constraints_start, constraints_entry, constraints_step}
-use Rattle.steps.specs.Walks.{Walk, done, step_to, run_cons, name_of_lem, written_length, content_start_lem, outer_read}
+use Rattle.der.specs.declared.Element.{Element}
+use Rattle.der.specs.declared.ElementError.TheVariants.{Truncated}
+use Rattle.der.proofs.Elements.{element_none}
+use Rattle.entries.specs.Entries.{text_tag_of, text_of, named, place_name, place_attribute, attribute_at, read_shape, subtree_at}
+use Rattle.steps.specs.Steps.{next_group, cursor, shown, set_opened, attribute_next, side_opened, subtree_next, start, entry, step}
+use Rattle.steps.specs.Walks.{Walk, done, more, run_cons, run_over, step_over, name_of_lem, written_length, content_start_lem, outer_read}
 use Rattle.steps.specs.declared.Cursor.{Cursor}
+use Rattle.steps.specs.declared.Source.TheVariants.{Subject, Constraints}
 use Rattle.steps.specs.declared.Step.{Step}
 
 -- the names of one group
@@ -37,16 +41,6 @@ members_of i l = map (λ a. record { group = i; value = a }) l
 
 -- ---- an empty run ends where it starts
 
-run_over : {A : Type 0} (f : Raw → Option A) (s : List ℕ) (n end : ℕ) → n ≤ end → end ≤ length s → items f (slice n end s) ≡ some [] → n ≡ end
-run_over f s n end h fits e = go (eqb n end) refl
-  where
-    go : (v : Bool) → eqb n end ≡ v → n ≡ end
-    go true w = eqb-true n end w
-    go false w =
-        let ne = eqb-false n end w in
-        let k : 1 ≤ length (slice n end s) = omega (arith, length-slice n end s fits) in
-        absurd (no_some (rw e at (items_some f (slice n end s) k)))
-
 run_on : {A : Type 0} (f : Raw → Option A) (s : List ℕ) (n end : ℕ) (a : A) (l : List A) → items f (slice n end s) ≡ some (a ∷ l) → n ≡ end → ⊥
 run_on f s n end a l e q =
     let p : some [] ≡ some (a ∷ l) = rw (q, slice_empty end s, items_end f) at e in
@@ -54,17 +48,18 @@ run_on f s n end a l e q =
 
 -- ---- the members of a group
 
-module _ {A : Type 0} (f : Raw → Option A) (write : A → List ℕ) (row : ℕ → ℕ → A → Row) (step : Cursor → Step) (s : List ℕ) (next_of : ℕ → ℕ → ℕ → Cursor) where
+module _ {A : Type 0} (f : Raw → Option A) (write : A → List ℕ) (row : ℕ → ℕ → A → Row) (step : Cursor → std.Option Step) (s : List ℕ) (next_of : ℕ → ℕ → ℕ → Cursor) where
   -- the step at a member: its row, and where the walk goes on
   pub record Stepped (at end i n : ℕ) (a : A) : Type 0 where
     pub to : Step
-    pub is : step (cursor at end i) ≡ to
+    pub is : step (cursor at end i) ≡ Some to
     pub row_is : to.row ≡ row at i a
     pub next_is : to.next ≡ next_of n end i
     pub there : at + length (write a) ≡ n
 
   abbrev StepsAll : Type 0
-  StepsAll = (at end i t b n : ℕ) (a : A) → at ≤ end → end ≤ length s → element_at s at end ≡ Found t b n → Read s at end t b n → f (raw t (slice b n s)) ≡ some a → Stepped at end i n a
+  StepsAll = (at end i : ℕ) (x : Element) (a : A) → at ≤ end → end ≤ length s → element_at s at end ≡ Ok x → Read s at end x.tag x.start x.next
+      → f (raw x.tag (slice x.start x.next s)) ≡ some a → Stepped at end i x.next a
 
   module _ (one : StepsAll) (go_on : (n end i : ℕ) → (n ≡ end → ⊥) → next_of n end i ≡ cursor n end i) where
     pub members_walk : (a : A) (l : List A) (at end i : ℕ) {rest : List (Member A)} {rows : List Row} → at ≤ end → end ≤ length s
@@ -72,30 +67,31 @@ module _ {A : Type 0} (f : Raw → Option A) (write : A → List ℕ) (row : ℕ
         → Walk step (cursor at end i) (members_of i (a ∷ l) ++ rest) (rows_of_members write row at i (a ∷ l) ++ rows)
     unfolding rows_of_members
     members_walk a [] at end i {rest} {rows} h fits e w =
-        run_cons f s at end h fits a [] e λ t b n found d q r.
-        let o = one at end i t b n a h fits found d q in
-        let y : n ≡ end = run_over f s n end d.rest fits r in
-        step_to o.is o.row_is (subst (λ c. Walk step c rest rows) (sym (o.next_is ∙ ap (λ x. next_of x end i) y)) w)
+        run_cons f s at end h fits a [] e λ x found d q r.
+        let o = one at end i x a h fits found d q in
+        let y : x.next ≡ end = run_over f s x.next end d.rest fits r in
+        more o.is o.row_is (subst (λ c. Walk step c rest rows) (sym (o.next_is ∙ ap (λ n. next_of n end i) y)) w)
     members_walk a (a' ∷ l) at end i {rest} {rows} h fits e w =
-        run_cons f s at end h fits a (a' ∷ l) e λ t b n found d q r.
-        let o = one at end i t b n a h fits found d q in
+        run_cons f s at end h fits a (a' ∷ l) e λ x found d q r.
+        let n = x.next in
+        let o = one at end i x a h fits found d q in
         let y = go_on n end i (run_on f s n end a' l r) in
         let v = members_walk a' l n end i d.rest fits r w in
-        step_to o.is o.row_is
+        more o.is o.row_is
         (subst (λ c. Walk step c (members_of i (a' ∷ l) ++ rest) (rows_of_members write row (at + length (write a)) i (a' ∷ l) ++ rows)) (sym (o.next_is ∙ y))
         (subst (λ x. Walk step (cursor n end i) (members_of i (a' ∷ l) ++ rest) (rows_of_members write row x i (a' ∷ l) ++ rows)) (sym o.there) v))
 
 -- ---- the subject
 
 module _ (s : List ℕ) where
-  attribute_steps : StepsAll read_attribute write_attribute attribute_row (subject_step s) s (attribute_next s)
-  unfolding subject_step subject_entry attribute_at place_attribute attribute_row write_attribute
-  attribute_steps at end i t b n a h fits found d q =
+  attribute_steps : StepsAll read_attribute write_attribute attribute_row (step Subject s) s (attribute_next s)
+  unfolding step entry attribute_at place_attribute attribute_row write_attribute
+  attribute_steps at end i x a h fits found d q =
+      let n = x.next in
       let k : n ≤ length s = omega (arith, d.rest) in
-      let x = n - length a.content in
-      let w = (attribute_c.sound (raw t (slice b n s)) q).1 in
-      let y : attribute_at s t b n ≡ Is (attribute_kind a) a.tag x = rw q in
-      let len : length (write_attribute a) ≡ n - at = written_length s at end t b n fits d (write_attribute a) (ap write_raw w) in
+      let w = (attribute_c.sound (raw x.tag (slice x.start n s)) q).1 in
+      let y : attribute_at s x.tag x.start n ≡ named (attribute_kind a) a.tag (n - length a.content) = rw q in
+      let len : length (write_attribute a) ≡ n - at = written_length s at end x.tag x.start n fits d (write_attribute a) (ap write_raw w) in
       record {
         to = shown (attribute_kind a) at n i (attribute_next s n end i);
         is = rw (le-ltb (length s) end fits, le-ltb end at h, found, y);
@@ -113,9 +109,16 @@ module _ (s : List ℕ) where
       let m : l ≡ set = cc in
       (is_true (eqb t 0x31) v, p ∙ z, rw m at (and_parts (some? l) _ y).0)
 
-  set_opens : (at i t b n : ℕ) → element_at s at (length s) ≡ Found t b n → eqb t 0x31 ≡ true → set_opened s at i ≡ cursor b n i
+  set_opens : (at i : ℕ) (x : Element) → element_at s at (length s) ≡ Ok x → eqb x.tag 0x31 ≡ true → set_opened s at i ≡ cursor x.start x.next i
   unfolding set_opened tagged_at tag_fits
-  set_opens at i t b n found e = rw (found, e)
+  set_opens at i x found e = rw (found, e)
+
+  -- no set is left
+  sets_over : (i : ℕ) → set_opened s (length s) i ≡ cursor (length s) (length s) i
+  unfolding set_opened tagged_at tag_fits
+  sets_over i =
+      let none : element_at s (length s) (length s) ≡ Err Truncated = sym (element_none s (length s) (omega arith) (length s) (omega arith) (omega arith)) in
+      rw none
 
   attribute_on : (n end i : ℕ) → (n ≡ end → ⊥) → attribute_next s n end i ≡ cursor n end i
   unfolding attribute_next
@@ -126,25 +129,29 @@ module _ (s : List ℕ) where
   attribute_over n i h = rw (eq-eqb n n refl, lt-ltb i n h, add-one)
 
   sets_walk : (sets : List (List Attribute)) (at i : ℕ) → at ≤ length s → i ≤ at → items read_set (slice at (length s) s) ≡ some sets
-      → Walk (subject_step s) (set_opened s at i) (flat (number_from i sets)) (rows_of_groups write_attribute attribute_row at (number_from i sets))
+      → Walk (step Subject s) (set_opened s at i) (flat (number_from i sets)) (rows_of_groups write_attribute attribute_row at (number_from i sets))
   unfolding flat number_from rows_of_groups write_attribute
-  sets_walk [] at i h g e = done
+  sets_walk [] at i h g e =
+      let over = run_over read_set s at (length s) h (omega arith) e in
+      done (ap (λ x. step Subject s (set_opened s x i)) over ∙ ap (step Subject s) (sets_over i) ∙ step_over Subject s (length s) i (omega arith))
   sets_walk ([] ∷ sets) at i h g e =
-      run_cons read_set s at (length s) h (omega arith) [] sets e λ t b n found d q r.
-      absurd (set_reads t (slice b n s) [] q).2
+      run_cons read_set s at (length s) h (omega arith) [] sets e λ x found d q r.
+      absurd (set_reads x.tag (slice x.start x.next s) [] q).2
   sets_walk ((a ∷ l) ∷ sets) at i h g e =
-      run_cons read_set s at (length s) h (omega arith) (a ∷ l) sets e λ t b n found d q r.
-      let p = set_reads t (slice b n s) (a ∷ l) q in
+      run_cons read_set s at (length s) h (omega arith) (a ∷ l) sets e λ x found d q r.
+      let b = x.start in
+      let n = x.next in
+      let p = set_reads x.tag (slice b n s) (a ∷ l) q in
       let k : n ≤ length s = d.rest in
       let content = run write_attribute (a ∷ l) in
       let c : slice b n s ≡ content = ((items_c attribute_c).sound (slice b n s) p.1).1 in
-      let u : b ≡ at + header content = content_start_lem s at (length s) t b n (omega arith) d ∙ ap (λ x. at + header x) c in
+      let u : b ≡ at + header content = content_start_lem s at (length s) x.tag b n (omega arith) d ∙ ap (λ x. at + header x) c in
       let v : n ≡ at + header content + length content = omega (arith, u, ap length c, length-slice b n s k, d.body) in
       let rest = sets_walk sets n (suc i) k (omega (arith, d.head, d.body)) r in
-      let all = members_walk read_attribute write_attribute attribute_row (subject_step s) s (attribute_next s) attribute_steps attribute_on a l b n i d.body k p.1
-      (subst (λ x. Walk (subject_step s) x (flat (number_from (suc i) sets)) (rows_of_groups write_attribute attribute_row n (number_from (suc i) sets))) (sym (attribute_over n i (omega (arith, d.head, d.body)))) rest) in
-      subst (λ x. Walk (subject_step s) x (flat (number_from i ((a ∷ l) ∷ sets))) (rows_of_groups write_attribute attribute_row at (number_from i ((a ∷ l) ∷ sets)))) (sym (set_opens at i t b n found p.0))
-      (subst₂ (λ x y. Walk (subject_step s) (cursor b n i) (flat (number_from i ((a ∷ l) ∷ sets))) (rows_of_members write_attribute attribute_row x i (a ∷ l) ++ rows_of_groups write_attribute attribute_row y (number_from (suc i) sets))) u v all)
+      let all = members_walk read_attribute write_attribute attribute_row (step Subject s) s (attribute_next s) attribute_steps attribute_on a l b n i d.body k p.1
+      (subst (λ x. Walk (step Subject s) x (flat (number_from (suc i) sets)) (rows_of_groups write_attribute attribute_row n (number_from (suc i) sets))) (sym (attribute_over n i (omega (arith, d.head, d.body)))) rest) in
+      subst (λ x. Walk (step Subject s) x (flat (number_from i ((a ∷ l) ∷ sets))) (rows_of_groups write_attribute attribute_row at (number_from i ((a ∷ l) ∷ sets)))) (sym (set_opens at i x found p.0))
+      (subst₂ (λ x y. Walk (step Subject s) (cursor b n i) (flat (number_from i ((a ∷ l) ∷ sets))) (rows_of_members write_attribute attribute_row x i (a ∷ l) ++ rows_of_groups write_attribute attribute_row y (number_from (suc i) sets))) u v all)
 
 -- the sets as they are read are the groups as they are written
 run_numbered : (i : ℕ) (sets : List (List Attribute)) → run write_set (number_from i sets) ≡ run (λ m. write_raw (raw 0x31 (run write_attribute m))) sets
@@ -153,18 +160,19 @@ run_numbered i [] = refl
 run_numbered i (m ∷ sets) = rw (run_numbered (suc i) sets)
 
 -- a subject that is read: from its start the steps show its list, with the rows of that list
-pub subject_walk : (s : List ℕ) (l : List (Member Attribute)) → read_subject s ≡ some l → Walk (subject_step s) (subject_start s) l (subject_grammar.rows l)
-unfolding read_subject read_sets subject_start write_set
+pub subject_walk : (s : List ℕ) (l : List (Member Attribute)) → read_subject s ≡ some l → Walk (step Subject s) (start Subject s) l (subject_grammar.rows l)
+unfolding read_subject read_sets start write_set
 subject_walk s l e =
     then_some (alone (tagged 0x30 (items read_set)) s) _ e λ sets p q.
-    outer_read (items read_set) s sets p λ t b found d r.
+    outer_read (items read_set) s sets p λ x found whole d r.
+    let b = x.start in
     let m : l ≡ flat (number_from 0 sets) = cc in
     let c = (items_c set_c).sound (slice b (length s) s) r in
     let g : groups l ≡ number_from 0 sets = ap groups m ∙ groups_numbered sets c.0 in
     let w : run write_set (number_from 0 sets) ≡ slice b (length s) s = run_numbered 0 sets ∙ sym c.1 in
-    let st : b ≡ header (run write_set (groups l)) = content_start_lem s 0 (length s) t b (length s) (omega arith) d ∙ omega arith ∙ ap header (sym (ap (run write_set) g ∙ w)) in
-    rw found (subst₂ (λ x gs. Walk (subject_step s) (set_opened s b 0) l (rows_of_groups write_attribute attribute_row x gs)) st (sym g)
-    (subst (λ y. Walk (subject_step s) (set_opened s b 0) y (rows_of_groups write_attribute attribute_row b (number_from 0 sets))) (sym m) (sets_walk s sets b 0 d.body (omega arith) r)))
+    let st : b ≡ header (run write_set (groups l)) = content_start_lem s 0 (length s) x.tag b (length s) (omega arith) d ∙ omega arith ∙ ap header (sym (ap (run write_set) g ∙ w)) in
+    rw found (subst₂ (λ x gs. Walk (step Subject s) (set_opened s b 0) l (rows_of_groups write_attribute attribute_row x gs)) st (sym g)
+    (subst (λ y. Walk (step Subject s) (set_opened s b 0) y (rows_of_groups write_attribute attribute_row b (number_from 0 sets))) (sym m) (sets_walk s sets b 0 d.body (omega arith) r)))
 
 -- ---- constraints
 
@@ -180,17 +188,18 @@ module _ (s : List ℕ) where
       let n : name_of y ≡ some m = name_of_lem s y m' i ∙ o in
       rw (is_true (eqb x.tag 0x30) v, p, z) n
 
-  subtree_steps : StepsAll read_subtree write_subtree subtree_row (constraints_step s) s (subtree_next s)
-  unfolding constraints_step constraints_entry subtree_at place_name subtree_row write_subtree write_name
-  subtree_steps at end i t b n m h fits found d q =
+  subtree_steps : StepsAll read_subtree write_subtree subtree_row (step Constraints s) s (subtree_next s)
+  unfolding step entry subtree_at place_name subtree_row write_subtree write_name
+  subtree_steps at end i x m h fits found d q =
+      let b = x.start in
+      let n = x.next in
       let k : n ≤ length s = omega (arith, d.rest) in
-      let x = n - length (text_of m) in
-      let w = (subtree_c.sound (raw t (slice b n s)) q).1 in
+      let w = (subtree_c.sound (raw x.tag (slice b n s)) q).1 in
       let c : slice b n s ≡ write_name m = ap (λ v. v.content) w in
-      let y : subtree_at s t b n ≡ Is (name_kind m) (text_tag_of m) x = rw (shape_of (raw t (slice b n s)) m q) in
-      let u : b ≡ at + header (write_name m) = content_start_lem s at end t b n fits d ∙ ap (λ v. at + header v) c in
+      let y : subtree_at s x.tag b n ≡ named (name_kind m) (text_tag_of m) (n - length (text_of m)) = rw (shape_of (raw x.tag (slice b n s)) m q) in
+      let u : b ≡ at + header (write_name m) = content_start_lem s at end x.tag b n fits d ∙ ap (λ v. at + header v) c in
       let len : n - b ≡ length (write_name m) = sym (length-slice b n s k) ∙ ap length c in
-      let whole : length (write_subtree m) ≡ n - at = written_length s at end t b n fits d (write_subtree m) (ap write_raw w) in
+      let whole : length (write_subtree m) ≡ n - at = written_length s at end x.tag b n fits d (write_subtree m) (ap write_raw w) in
       record {
         to = shown (name_kind m) b n i (subtree_next s n end i);
         is = rw (le-ltb (length s) end fits, le-ltb end at h, found, y);
@@ -207,9 +216,16 @@ module _ (s : List ℕ) where
   unfolding subtree_next
   subtree_over n i = rw (eq-eqb n n refl)
 
-  side_opens : (at t b n : ℕ) → element_at s at (length s) ≡ Found t b n → side_opened s at ≡ cursor b n (t % 2)
+  side_opens : (at : ℕ) (x : Element) → element_at s at (length s) ≡ Ok x → side_opened s at ≡ cursor x.start x.next (x.tag % 2)
   unfolding side_opened
-  side_opens at t b n found = rw found
+  side_opens at x found = rw found
+
+  -- no side is left
+  sides_over : side_opened s (length s) ≡ cursor (length s) (length s) 0
+  unfolding side_opened
+  sides_over =
+      let none : element_at s (length s) (length s) ≡ Err Truncated = sym (element_none s (length s) (omega arith) (length s) (omega arith) (omega arith)) in
+      rw none
 
   -- what a side that is read says
   side_says : (t : ℕ) (c : List ℕ) (g : Group GeneralName) → read_side (raw t c) ≡ some g
@@ -226,42 +242,47 @@ module _ (s : List ℕ) where
 
   -- a side that is read is walked, and then what follows it
   side_walk : (i : ℕ) (ms : List GeneralName) (b n : ℕ) {rest : List (Member GeneralName)} {rows : List Row} → b ≤ n → n ≤ length s → T (some? ms) → items read_subtree (slice b n s) ≡ some ms
-      → Walk (constraints_step s) (side_opened s n) rest rows
-      → Walk (constraints_step s) (cursor b n i) (members_of i ms ++ rest) (rows_of_members write_subtree subtree_row b i ms ++ rows)
+      → Walk (step Constraints s) (side_opened s n) rest rows
+      → Walk (step Constraints s) (cursor b n i) (members_of i ms ++ rest) (rows_of_members write_subtree subtree_row b i ms ++ rows)
   side_walk i [] b n h fits t e w = absurd t
   side_walk i (m ∷ ms) b n {rest} {rows} h fits t e w =
-      members_walk read_subtree write_subtree subtree_row (constraints_step s) s (subtree_next s) subtree_steps subtree_on m ms b n i h fits e
-      (subst (λ x. Walk (constraints_step s) x rest rows) (sym (subtree_over n i)) w)
+      members_walk read_subtree write_subtree subtree_row (step Constraints s) s (subtree_next s) subtree_steps subtree_on m ms b n i h fits e
+      (subst (λ x. Walk (step Constraints s) x rest rows) (sym (subtree_over n i)) w)
 
   sides_walk : (gs : List (Group GeneralName)) (at : ℕ) → at ≤ length s → items read_side (slice at (length s) s) ≡ some gs
-      → Walk (constraints_step s) (side_opened s at) (flat gs) (rows_of_groups write_subtree subtree_row at gs)
+      → Walk (step Constraints s) (side_opened s at) (flat gs) (rows_of_groups write_subtree subtree_row at gs)
   unfolding flat rows_of_groups
-  sides_walk [] at h e = done
+  sides_walk [] at h e =
+      let over = run_over read_side s at (length s) h (omega arith) e in
+      done (ap (λ x. step Constraints s (side_opened s x)) over ∙ ap (step Constraints s) sides_over ∙ step_over Constraints s (length s) 0 (omega arith))
   sides_walk (g ∷ gs) at h e =
-      run_cons read_side s at (length s) h (omega arith) g gs e λ t b n found d q r.
-      let p = side_says t (slice b n s) g q in
+      run_cons read_side s at (length s) h (omega arith) g gs e λ x found d q r.
+      let b = x.start in
+      let n = x.next in
+      let p = side_says x.tag (slice b n s) g q in
       let k : n ≤ length s = d.rest in
       let content = run write_subtree g.members in
-      let u : b ≡ at + header content = content_start_lem s at (length s) t b n (omega arith) d ∙ ap (λ x. at + header x) p.1 in
+      let u : b ≡ at + header content = content_start_lem s at (length s) x.tag b n (omega arith) d ∙ ap (λ x. at + header x) p.1 in
       let v : n ≡ at + header content + length content = omega (arith, u, ap length p.1, length-slice b n s k, d.body) in
       let rest = sides_walk gs n k r in
-      let opens : side_opened s at ≡ cursor b n g.number = side_opens at t b n found ∙ ap (cursor b n) p.0 in
+      let opens : side_opened s at ≡ cursor b n g.number = side_opens at x found ∙ ap (cursor b n) p.0 in
       let all = side_walk g.number g.members b n d.body k p.3 p.2 rest in
-      subst (λ x. Walk (constraints_step s) x (flat (g ∷ gs)) (rows_of_groups write_subtree subtree_row at (g ∷ gs))) (sym opens)
-      (subst₂ (λ x y. Walk (constraints_step s) (cursor b n g.number) (flat (g ∷ gs)) (rows_of_members write_subtree subtree_row x g.number g.members ++ rows_of_groups write_subtree subtree_row y gs)) u v all)
+      subst (λ x. Walk (step Constraints s) x (flat (g ∷ gs)) (rows_of_groups write_subtree subtree_row at (g ∷ gs))) (sym opens)
+      (subst₂ (λ x y. Walk (step Constraints s) (cursor b n g.number) (flat (g ∷ gs)) (rows_of_members write_subtree subtree_row x g.number g.members ++ rows_of_groups write_subtree subtree_row y gs)) u v all)
 
 -- constraints that are read: from their start the steps show their list, with the rows of that list
-pub constraints_walk : (s : List ℕ) (l : List (Member GeneralName)) → read_constraints s ≡ some l → Walk (constraints_step s) (constraints_start s) l (constraints_grammar.rows l)
-unfolding read_constraints read_sides constraints_start write_side
+pub constraints_walk : (s : List ℕ) (l : List (Member GeneralName)) → read_constraints s ≡ some l → Walk (step Constraints s) (start Constraints s) l (constraints_grammar.rows l)
+unfolding read_constraints read_sides start write_side
 constraints_walk s l e =
     then_some (alone (tagged 0x30 (also (λ gs. some? gs && chain rising gs) (items read_side))) s) _ e λ gs p q.
-    outer_read (also (λ gs. some? gs && chain rising gs) (items read_side)) s gs p λ t b found d r.
+    outer_read (also (λ gs. some? gs && chain rising gs) (items read_side)) s gs p λ x found whole d r.
+    let b = x.start in
     let m : l ≡ flat gs = cc in
     let c = (also_c (items_c side_c) (λ gs. some? gs && chain rising gs)).sound (slice b (length s) s) r in
     let g : groups l ≡ gs = ap groups m ∙ groups_sides gs c.0 in
     then_some (items read_side (slice b (length s) s)) _ r λ gs' y z.
     when_some (some? gs' && chain rising gs') (some gs') z λ v w.
     let i : items read_side (slice b (length s) s) ≡ some gs = y ∙ w in
-    let st : b ≡ header (run write_side (groups l)) = content_start_lem s 0 (length s) t b (length s) (omega arith) d ∙ omega arith ∙ ap header (c.1 ∙ ap (run write_side) (sym g)) in
-    rw found (subst₂ (λ x hs. Walk (constraints_step s) (side_opened s b) l (rows_of_groups write_subtree subtree_row x hs)) st (sym g)
-    (subst (λ y. Walk (constraints_step s) (side_opened s b) y (rows_of_groups write_subtree subtree_row b gs)) (sym m) (sides_walk s gs b d.body i)))
+    let st : b ≡ header (run write_side (groups l)) = content_start_lem s 0 (length s) x.tag b (length s) (omega arith) d ∙ omega arith ∙ ap header (c.1 ∙ ap (run write_side) (sym g)) in
+    rw found (subst₂ (λ x hs. Walk (step Constraints s) (side_opened s b) l (rows_of_groups write_subtree subtree_row x hs)) st (sym g)
+    (subst (λ y. Walk (step Constraints s) (side_opened s b) y (rows_of_groups write_subtree subtree_row b gs)) (sym m) (sides_walk s gs b d.body i)))

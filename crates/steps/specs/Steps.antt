@@ -1,18 +1,18 @@
 -- One step of a walk: the row of the name at a cursor, and the next cursor. For every cursor.
-use Rattle.std.specs.Prelude.{ℕ, ◌+◌, ◌-◌, ◌%◌, List, cond, ltb, eqb, length}
+use Rattle.std.specs.Prelude.{ℕ, ◌+◌, ◌-◌, ◌%◌, List, cond, ltb, eqb, length, Result, Ok, Err, Option, Some, None}
 use Rattle.der.specs.Places.{element_at, tagged_at}
 use Rattle.der.specs.declared.Element.{Element}
-use Rattle.der.specs.declared.Element.TheVariants.{Found, Truncated, BadLength, BadTag}
 use Rattle.entries.specs.Entries.{name_at, attribute_at, subtree_at}
 use Rattle.entries.specs.declared.Name.{Name}
-use Rattle.entries.specs.declared.Name.TheVariants.{Is, Malformed}
+use Rattle.entries.specs.declared.Unreadable.{Unreadable}
 use Rattle.steps.specs.declared.Cursor.{Cursor}
 use Rattle.steps.specs.declared.Step.{Step}
+use Rattle.steps.specs.declared.Source.{Source}
+use Rattle.steps.specs.declared.Source.TheVariants.{San, Subject, Constraints}
 
--- no name stands at the cursor
-unfoldable pub stopped : ℕ → ℕ → ℕ → Step
-stopped at end group =
-    record { row = record { kind = 0; start = 0; length = 0; group = 0 }; next = record { at = at; end = end; group = group } }
+-- which string a number means
+abbrev pub source_of : ℕ → Source
+source_of which = cond (eqb which 0) San (cond (eqb which 1) Subject Constraints)
 
 unfoldable pub next_group : ℕ → ℕ → ℕ
 next_group group at = cond (ltb group at) (group + 1) group
@@ -24,70 +24,63 @@ cursor at end group = record { at = at; end = end; group = group }
 abbrev pub shown : ℕ → ℕ → ℕ → ℕ → Cursor → Step
 shown kind start next group c = record { row = record { kind = kind; start = start; length = next - start; group = group }; next = c }
 
--- ---- what is read, or where nothing is
+-- ---- what is read, or what holds where nothing is
 
-abbrev pub or_else : {X : Type 0} → X → Element → (ℕ → ℕ → ℕ → X) → X
-or_else z (Found t b n) f = f t b n
-or_else z Truncated f = z
-or_else z BadLength f = z
-or_else z BadTag f = z
+abbrev pub or_else : {A E X : Type 0} → X → Result A E → (A → X) → X
+or_else z (Ok a) f = f a
+or_else z (Err why) f = z
 
-abbrev pub or_stop : {X : Type 0} → X → Name → (ℕ → X) → X
-or_stop z (Is k u x) f = f k
-or_stop z Malformed f = z
-
--- a cursor that lies in the slice
-abbrev pub inside : List ℕ → ℕ → ℕ → ℕ → Step → Step
-inside s at end group t = cond (ltb (length s) end) (stopped at end group) (cond (ltb end at) (stopped at end group) t)
-
--- ---- SAN
-
-unfoldable pub san_start : List ℕ → Cursor
-san_start s = or_else (cursor 0 0 0) (tagged_at s 0 (length s) 0x30) (λ t b n. cursor b n 0)
-
-unfoldable pub san_entry : List ℕ → ℕ → ℕ → ℕ → Step
-san_entry s at end group =
-    or_else (stopped at end group) (element_at s at end) (λ t b n.
-    or_stop (stopped at end group) (name_at s t b n) (λ k. shown k at n group (cursor n end (next_group group n))))
-
-unfoldable pub san_step : List ℕ → Cursor → Step
-san_step s c = inside s c.at c.end c.group (san_entry s c.at c.end c.group)
-
--- ---- the subject: a cursor stands at an attribute, in a set that ends at `end`
+-- ---- the parts that names stand in: the whole SAN, the sets of a subject, the sides of constraints
 
 unfoldable pub set_opened : List ℕ → ℕ → ℕ → Cursor
-set_opened s at group = or_else (cursor at at group) (tagged_at s at (length s) 0x31) (λ t b n. cursor b n group)
+set_opened s at group = or_else (cursor at at group) (tagged_at s at (length s) 0x31) (λ e. cursor e.start e.next group)
+
+unfoldable pub side_opened : List ℕ → ℕ → Cursor
+side_opened s at = or_else (cursor at at 0) (element_at s at (length s)) (λ e. cursor e.start e.next (e.tag % 2))
+
+-- the first name of a whole string whose outermost element is read
+abbrev pub first_in : Source → List ℕ → Element → Cursor
+first_in San s e = cursor e.start e.next 0
+first_in Subject s e = set_opened s e.start 0
+first_in Constraints s e = side_opened s e.start
+
+unfoldable pub start : Source → List ℕ → Cursor
+start source s = or_else (cursor 0 0 0) (tagged_at s 0 (length s) 0x30) (first_in source s)
+
+-- ---- a name, and what follows it
+
+-- an element as an entry, an attribute, a subtree
+abbrev pub shape_at : Source → List ℕ → Element → Result Name Unreadable
+shape_at San s e = name_at s e.tag e.start e.next
+shape_at Subject s e = attribute_at s e.tag e.start e.next
+shape_at Constraints s e = subtree_at s e.tag e.start e.next
+
+-- where the row starts of a name whose element starts at `at`, and that element's content at b: the row of a subtree is the
+-- GeneralName's, which starts where the subtree's content does
+abbrev pub row_start : Source → ℕ → ℕ → ℕ
+row_start San at b = at
+row_start Subject at b = at
+row_start Constraints at b = b
 
 unfoldable pub attribute_next : List ℕ → ℕ → ℕ → ℕ → Cursor
 attribute_next s n end group = cond (eqb n end) (set_opened s n (next_group group n)) (cursor n end group)
 
-unfoldable pub subject_start : List ℕ → Cursor
-subject_start s = or_else (cursor 0 0 0) (tagged_at s 0 (length s) 0x30) (λ t b n. set_opened s b 0)
-
-unfoldable pub subject_entry : List ℕ → ℕ → ℕ → ℕ → Step
-subject_entry s at end group =
-    or_else (stopped at end group) (element_at s at end) (λ t b n.
-    or_stop (stopped at end group) (attribute_at s t b n) (λ k. shown k at n group (attribute_next s n end group)))
-
-unfoldable pub subject_step : List ℕ → Cursor → Step
-subject_step s c = inside s c.at c.end c.group (subject_entry s c.at c.end c.group)
-
--- ---- constraints: a cursor stands at a subtree, in a side that ends at `end`
-
-unfoldable pub side_opened : List ℕ → ℕ → Cursor
-side_opened s at = or_else (cursor at at 0) (element_at s at (length s)) (λ t b n. cursor b n (t % 2))
-
 unfoldable pub subtree_next : List ℕ → ℕ → ℕ → ℕ → Cursor
 subtree_next s n end group = cond (eqb n end) (side_opened s n) (cursor n end group)
 
-unfoldable pub constraints_start : List ℕ → Cursor
-constraints_start s = or_else (cursor 0 0 0) (tagged_at s 0 (length s) 0x30) (λ t b n. side_opened s b)
+-- what follows a name that ends at n, in a part that ends at `end`
+abbrev pub after_name : Source → List ℕ → ℕ → ℕ → ℕ → Cursor
+after_name San s n end group = cursor n end (next_group group n)
+after_name Subject s n end group = attribute_next s n end group
+after_name Constraints s n end group = subtree_next s n end group
 
--- the row is the GeneralName's, which starts where the subtree's content does
-unfoldable pub constraints_entry : List ℕ → ℕ → ℕ → ℕ → Step
-constraints_entry s at end group =
-    or_else (stopped at end group) (element_at s at end) (λ t b n.
-    or_stop (stopped at end group) (subtree_at s t b n) (λ k. shown k b n group (subtree_next s n end group)))
+-- the name from `at` on, in a part that ends at `end`, if one stands there
+unfoldable pub entry : Source → List ℕ → ℕ → ℕ → ℕ → Option Step
+entry source s at end group =
+    or_else None (element_at s at end) (λ e.
+    or_else None (shape_at source s e) (λ m.
+    Some (shown m.kind (row_start source at e.start) e.next group (after_name source s e.next end group))))
 
-unfoldable pub constraints_step : List ℕ → Cursor → Step
-constraints_step s c = inside s c.at c.end c.group (constraints_entry s c.at c.end c.group)
+-- none where the cursor does not lie in the slice
+unfoldable pub step : Source → List ℕ → Cursor → Option Step
+step source s c = cond (ltb (length s) c.end) None (cond (ltb c.end c.at) None (entry source s c.at c.end c.group))

@@ -1,13 +1,36 @@
 // A walk over the names of a certificate string: each step shows the row of one name.
-#![tactic(auto)]
+#![tactic(auto, using(crate::proofs::Laws::laws))]
 
 ghost use Rattle.std.specs.Prelude.{◌≤◌, ◌≡◌, length};
-ghost use Rattle.steps.specs.Steps.{stopped, cursor, shown, next_group, san_start, san_entry, san_step, set_opened, attribute_next, subject_start, subject_entry, subject_step, side_opened, subtree_next, constraints_start, constraints_entry, constraints_step};
+ghost use Rattle.std.specs.Iterator.{YieldsFirst, item_count};
+ghost use Rattle.steps.specs.Steps.{source_of, cursor, next_group, set_opened, side_opened, after_name, shape_at, row_start, start, step};
+ghost use Rattle.steps.specs.Rows.{rows_left, walk_of};
 
 use der::{Element, read_element, tagged};
-use entries::{Name, attribute, name_shape, subtree_shape};
+use entries::{Name, Unreadable, attribute, name_shape, subtree_shape};
 use octets::wide;
 use rules::Row;
+
+// A certificate string: what its names are, and how it groups them.
+#[derive(Clone, Copy, Debug, PartialEq, Eq)]
+pub enum Source {
+    San,
+    Subject,
+    Constraints,
+}
+
+// A caller names the string by a number: 0 for the SAN, 1 for the subject, any other for the constraints.
+impl From<usize> for Source {
+    ghost from_gives = { λ which source. source ≡ source_of which };
+
+    fn from(which: usize) -> Source {
+        match which {
+            0 => Source::San,
+            1 => Source::Subject,
+            _ => Source::Constraints,
+        }
+    }
+}
 
 // Where a walk stands: at a name, in a part that ends at `end`, with that name's group.
 #[derive(Clone, Copy)]
@@ -17,6 +40,26 @@ pub struct Cursor {
     pub group: usize,
 }
 
+impl Cursor {
+    // At the first name of a part.
+    fn into_part(part: Element, group: usize) -> Cursor
+        ensures { result ≡ cursor part.start part.next group }
+    {
+        Cursor {
+            at: part.start,
+            end: part.next,
+            group,
+        }
+    }
+
+    // At the end, where no part is left.
+    fn past(at: usize, group: usize) -> Cursor
+        ensures { result ≡ cursor at at group }
+    {
+        Cursor { at, end: at, group }
+    }
+}
+
 // A name's row, and where the walk goes on.
 #[derive(Clone, Copy)]
 pub struct Step {
@@ -24,322 +67,151 @@ pub struct Step {
     pub next: Cursor,
 }
 
-// No name stands at the cursor.
-fn stop(at: usize, end: usize, group: usize) -> Step
-    ensures { result ≡ stopped at end group }
-{
-    Step {
-        row: Row {
-            kind: 0,
-            start: 0,
-            length: 0,
-            group: 0,
-        },
-        next: Cursor {
-            at: at,
-            end: end,
-            group: group,
-        },
-    }
-}
-
-// A name whose element lies from `start` to `past`, and the next cursor.
-fn show(
-    kind: usize,
-    start: usize,
-    past: usize,
-    group: usize,
-    at: usize,
-    end: usize,
-    after: usize,
-) -> Step
-    requires { start ≤ past }
-    ensures { result ≡ shown kind start past group (cursor at end after) }
-{
-    Step {
-        row: Row {
-            kind: kind,
-            start: start,
-            length: past - start,
-            group: group,
-        },
-        next: Cursor {
-            at: at,
-            end: end,
-            group: after,
-        },
-    }
-}
-
 // The number after a group's: each group takes a byte at least, so that it is never greater than the place after it.
 fn next_group(group: usize, at: usize) -> usize
     ensures { result ≡ next_group group at }
 {
-    if group < at {
-        return group + 1;
-    }
-    group
-}
-
-// The first entry of a SAN.
-pub fn san_start(s: &[u8]) -> Cursor
-    ensures { result ≡ san_start s.now }
-{
-    let end = s.len();
-    let e = tagged(s, 0, end, 0x30);
-    let Element::Found {
-        tag: _,
-        start,
-        next,
-    } = e
-    else {
-        return Cursor {
-            at: 0,
-            end: 0,
-            group: 0,
-        };
-    };
-    Cursor {
-        at: start,
-        end: next,
-        group: 0,
-    }
-}
-
-// The entry from `at` on, in a part that ends at `end`. "Group: entry index".
-fn san_entry(s: &[u8], at: usize, end: usize, group: usize) -> Step
-    requires at_le_end { at ≤ end }
-    requires end_in_bounds { end ≤ length s.now }
-    ensures { result ≡ san_entry s.now at end group }
-{
-    let e = read_element(s, at, end);
-    let Element::Found { tag, start, next } = e else {
-        return stop(at, end, group);
-    };
-    let n = name_shape(s, tag, start, next);
-    let Name::Is {
-        kind,
-        tag: _,
-        text: _,
-    } = n
-    else {
-        return stop(at, end, group);
-    };
-    let after = next_group(group, next);
-    show(kind, at, next, group, next, end, after)
-}
-
-// The entry at the cursor.
-pub fn san_step(s: &[u8], c: Cursor) -> Step
-    ensures { result ≡ san_step s.now c }
-{
-    let at = c.at;
-    let end = c.end;
-    let group = c.group;
-    if s.len() < end {
-        return stop(at, end, group);
-    }
-    if end < at {
-        return stop(at, end, group);
-    }
-    san_entry(s, at, end, group)
+    if group < at { group + 1 } else { group }
 }
 
 // The first attribute of the set at `at`, with the set's number; the end where no set is left.
+#[tactic(auto, using(crate::proofs::Laws::parts))]
 fn open_set(s: &[u8], at: usize, group: usize) -> Cursor
     requires { at ≤ length s.now }
     ensures { result ≡ set_opened s.now at group }
 {
-    let end = s.len();
-    let e = tagged(s, at, end, 0x31);
-    let Element::Found {
-        tag: _,
-        start,
-        next,
-    } = e
-    else {
-        return Cursor {
-            at: at,
-            end: at,
-            group: group,
-        };
-    };
-    Cursor {
-        at: start,
-        end: next,
-        group: group,
+    match tagged(s, at, s.len(), 0x31) {
+        Ok(set) => Cursor::into_part(set, group),
+        Err(_) => Cursor::past(at, group),
     }
-}
-
-// What follows an attribute that ends at `next`: the next of its set, or the first of the next set.
-fn after_attribute(s: &[u8], next: usize, end: usize, group: usize) -> Cursor
-    requires { next ≤ length s.now }
-    ensures { result ≡ attribute_next s.now next end group }
-{
-    if next == end {
-        let after = next_group(group, next);
-        return open_set(s, next, after);
-    }
-    Cursor {
-        at: next,
-        end: end,
-        group: group,
-    }
-}
-
-// The first attribute of a subject.
-pub fn subject_start(s: &[u8]) -> Cursor
-    ensures { result ≡ subject_start s.now }
-{
-    let end = s.len();
-    let e = tagged(s, 0, end, 0x30);
-    let Element::Found {
-        tag: _,
-        start,
-        next: _,
-    } = e
-    else {
-        return Cursor {
-            at: 0,
-            end: 0,
-            group: 0,
-        };
-    };
-    open_set(s, start, 0)
-}
-
-// The attribute from `at` on, in a set that ends at `end`. "Group: .. RDN index".
-fn subject_entry(s: &[u8], at: usize, end: usize, group: usize) -> Step
-    requires at_le_end { at ≤ end }
-    requires end_in_bounds { end ≤ length s.now }
-    ensures { result ≡ subject_entry s.now at end group }
-{
-    let e = read_element(s, at, end);
-    let Element::Found { tag, start, next } = e else {
-        return stop(at, end, group);
-    };
-    let n = attribute(s, tag, start, next);
-    let Name::Is {
-        kind,
-        tag: _,
-        text: _,
-    } = n
-    else {
-        return stop(at, end, group);
-    };
-    let c = after_attribute(s, next, end, group);
-    show(kind, at, next, group, c.at, c.end, c.group)
-}
-
-// The attribute at the cursor.
-pub fn subject_step(s: &[u8], c: Cursor) -> Step
-    ensures { result ≡ subject_step s.now c }
-{
-    let at = c.at;
-    let end = c.end;
-    let group = c.group;
-    if s.len() < end {
-        return stop(at, end, group);
-    }
-    if end < at {
-        return stop(at, end, group);
-    }
-    subject_entry(s, at, end, group)
 }
 
 // The first subtree of the side at `at`: "A0 (permitted), A1 (excluded)"; the end where no side is left.
+#[tactic(auto, using(crate::proofs::Laws::parts))]
 fn open_side(s: &[u8], at: usize) -> Cursor
     requires { at ≤ length s.now }
     ensures { result ≡ side_opened s.now at }
 {
-    let end = s.len();
-    let e = read_element(s, at, end);
-    let Element::Found { tag, start, next } = e else {
-        return Cursor {
-            at: at,
-            end: at,
-            group: 0,
+    match read_element(s, at, s.len()) {
+        Ok(side) => Cursor::into_part(side, wide(side.tag % 2)),
+        Err(_) => Cursor::past(at, 0),
+    }
+}
+
+impl Source {
+    // The first name.
+    #[tactic(auto, using(crate::proofs::Laws::starts))]
+    pub fn start(self, s: &[u8]) -> Cursor
+        ensures { result ≡ start self s.now }
+    {
+        let Ok(whole) = tagged(s, 0, s.len(), 0x30) else {
+            return Cursor::past(0, 0);
         };
-    };
-    let group = wide(tag % 2);
-    Cursor {
-        at: start,
-        end: next,
-        group: group,
+        match self {
+            Source::San => Cursor::into_part(whole, 0),
+            Source::Subject => open_set(s, whole.start, 0),
+            Source::Constraints => open_side(s, whole.start),
+        }
+    }
+
+    // What an element of a part is as a name.
+    fn shape(self, s: &[u8], element: Element) -> Result<Name, Unreadable>
+        requires start_le_next { element.start ≤ element.next }
+        requires next_in_bounds { element.next ≤ length s.now }
+        ensures { result ≡ shape_at self s.now element }
+    {
+        let Element { tag, start, next } = element;
+        match self {
+            Source::San => name_shape(s, tag, start, next),
+            Source::Subject => attribute(s, tag, start, next),
+            Source::Constraints => subtree_shape(s, tag, start, next),
+        }
+    }
+
+    // Where the row of a name starts: where its element does, at `at`. "A subtree's row is its GeneralName", which is its content.
+    fn row_start(self, at: usize, content: usize) -> usize
+        ensures { result ≡ row_start self at content }
+    {
+        match self {
+            Source::San | Source::Subject => at,
+            Source::Constraints => content,
+        }
+    }
+
+    // What follows a name that ends at `next`, in the part of the cursor `c`: the next of this part, or the first of the next part.
+    // "Group: entry index", "RDN index".
+    fn after(self, s: &[u8], next: usize, c: Cursor) -> Cursor
+        requires { next ≤ length s.now }
+        ensures { result ≡ after_name self s.now next c.end c.group }
+    {
+        match self {
+            Source::San => Cursor {
+                at: next,
+                end: c.end,
+                group: next_group(c.group, next),
+            },
+            Source::Subject if next == c.end => open_set(s, next, next_group(c.group, next)),
+            Source::Constraints if next == c.end => open_side(s, next),
+            _ => Cursor {
+                at: next,
+                end: c.end,
+                group: c.group,
+            },
+        }
+    }
+
+    // The name at the cursor, if one stands there.
+    #[tactic(auto, using(crate::proofs::Laws::names))]
+    pub fn step(self, s: &[u8], c: Cursor) -> Option<Step>
+        ensures { result ≡ step self s.now c }
+    {
+        if s.len() < c.end || c.end < c.at {
+            return None;
+        }
+        let element = read_element(s, c.at, c.end).ok()?;
+        let name = self.shape(s, element).ok()?;
+        let start = self.row_start(c.at, element.start);
+        Some(Step {
+            row: Row {
+                kind: name.kind,
+                start,
+                length: element.next - start,
+                group: c.group,
+            },
+            next: self.after(s, element.next, c),
+        })
+    }
+
+    // The rows of the names, one after the other.
+    pub fn rows<'a>(self, bytes: &'a [u8]) -> Rows<'a>
+        ensures { result ≡ walk_of self bytes.entry }
+    {
+        Rows {
+            source: self,
+            bytes,
+            cursor: self.start(bytes),
+        }
     }
 }
 
-// What follows a subtree that ends at `next`: the next of its side, or the first of the other side.
-fn after_subtree(s: &[u8], next: usize, end: usize, group: usize) -> Cursor
-    requires { next ≤ length s.now }
-    ensures { result ≡ subtree_next s.now next end group }
-{
-    if next == end {
-        return open_side(s, next);
-    }
-    Cursor {
-        at: next,
-        end: end,
-        group: group,
-    }
+// A walk that is under way: the string, and where the walk stands.
+#[derive(Clone, Copy)]
+pub struct Rows<'a> {
+    source: Source,
+    bytes: &'a [u8],
+    cursor: Cursor,
 }
 
-// The first subtree of the constraints.
-pub fn constraints_start(s: &[u8]) -> Cursor
-    ensures { result ≡ constraints_start s.now }
-{
-    let end = s.len();
-    let e = tagged(s, 0, end, 0x30);
-    let Element::Found {
-        tag: _,
-        start,
-        next: _,
-    } = e
-    else {
-        return Cursor {
-            at: 0,
-            end: 0,
-            group: 0,
-        };
-    };
-    open_side(s, start)
-}
+impl<'a> Iterator for Rows<'a> {
+    type Item = Row;
 
-// The subtree from `at` on, in a side that ends at `end`. "A subtree's row is its GeneralName."
-fn constraints_entry(s: &[u8], at: usize, end: usize, group: usize) -> Step
-    requires at_le_end { at ≤ end }
-    requires end_in_bounds { end ≤ length s.now }
-    ensures { result ≡ constraints_entry s.now at end group }
-{
-    let e = read_element(s, at, end);
-    let Element::Found { tag, start, next } = e else {
-        return stop(at, end, group);
-    };
-    let n = subtree_shape(s, tag, start, next);
-    let Name::Is {
-        kind,
-        tag: _,
-        text: _,
-    } = n
-    else {
-        return stop(at, end, group);
-    };
-    let c = after_subtree(s, next, end, group);
-    show(kind, start, next, group, c.at, c.end, c.group)
-}
+    ghost next_gives = { YieldsFirst rows_left };
 
-// The subtree at the cursor.
-pub fn constraints_step(s: &[u8], c: Cursor) -> Step
-    ensures { result ≡ constraints_step s.now c }
-{
-    let at = c.at;
-    let end = c.end;
-    let group = c.group;
-    if s.len() < end {
-        return stop(at, end, group);
+    ghost remaining = { item_count rows_left };
+
+    fn next(&mut self) -> Option<Row> {
+        let shown = self.source.step(self.bytes, self.cursor)?;
+        self.cursor = shown.next;
+        Some(shown.row)
     }
-    if end < at {
-        return stop(at, end, group);
-    }
-    constraints_entry(s, at, end, group)
 }

@@ -1,106 +1,160 @@
--- The steps that are left find what the whole listing shows, and the position after it lies within the string.
-use Prim.Native.Nat.{ℕ, zero, suc, ◌+◌, ◌-◌, ◌≤◌, ◌<◌}
+-- What an opening answers, and what is found among the rows is what the whole listing shows; the position after it lies within the string.
+use Prim.Native.Nat.{ℕ, ◌+◌, ◌≤◌}
 use mathlib.Core.Path.{◌≡◌, refl, sym, ap, subst, ◌∙◌}
+use mathlib.Core.Bool.{Bool, true, false, cond}
 use mathlib.Core.Option.{Option, none, some}
 use mathlib.Core.List.{List, [], ◌∷◌}
 use native.Mathlib.Omega.{arith}
+use lib.Dec.{leb}
 use lib.ListN.{length}
+use denote.Ref.{Bor}
+use denote.Param.Members.{Mut}
+use Rattle.std.specs.Bool.{⊤}
+use Rattle.std.specs.Fn.{CalledAt}
+use Rattle.std.specs.Iterator.{YieldsThen, YieldsFirst}
+use Rattle.std.specs.List.{FoldsTo, find}
+use Rattle.std.specs.Option.{MatchOption, option_map}
+use Rattle.std.proofs.lemmas.Iterator.Consumers.{YieldsList-from_first}
+use Rattle.std.proofs.lemmas.Iterator.Search.{find_from_yields_List}
+use Rattle.std.specs.Prelude as std
+use Rattle.std.specs.Prelude.{Result, Ok, Err, Some, None}
+use Rattle.rules.specs.Numbers.{answer_of}
 use Rattle.rules.specs.Seen.{Seen, too_long, unreadable, listed}
 use Rattle.rules.specs.Viewer.{row_from, row_or_end, view_of, opening_of}
+use Rattle.rules.specs.declared.Refusal.{Refusal}
+use Rattle.rules.specs.declared.Refusal.TheVariants.{InputTooLong}
 use Rattle.rules.specs.declared.Row.{Row}
-use Rattle.rules.specs.declared.Sight.TheVariants.{Name, End}
-use Rattle.rules.specs.declared.View.{View}
 use Rattle.reading.specs.Calls.{refusal_of, seen_rows, opening_on, view_on}
-use Rattle.reading.proofs.Laid.{row_here, row_later, row_none, row_within, end_or_row, rows_laid}
-use Rattle.steps.specs.Walks.{rows_by}
-use Rattle.steps.specs.declared.Cursor.{Cursor}
-use Rattle.steps.specs.declared.Step.{Step}
-use Rattle.listing.specs.Steps.{first_of, step_of}
-use Rattle.listing.specs.Plans.{refused, opened_for, opened_of}
-use Rattle.listing.specs.declared.Plan.{Plan}
-use Rattle.listing.proofs.Table.{all_shown}
+use Rattle.reading.proofs.Laid.{row_within, end_or_row, rows_laid}
+use Rattle.steps.specs.Rows.{rows_left, walk_of}
+use Rattle.steps.specs.Steps.{source_of}
+use Rattle.steps.specs.declared.Rows.{Rows}
+use Rattle.steps.specs.declared.Source.{Source}
+use Rattle.listing.specs.Plans.{unreadable_of, opened_for, opened_of}
+use Rattle.listing.specs.declared.Names.{Names}
+use Rattle.listing.proofs.Table.{seen_rows_is, refusal_is, all_shown}
 
-pub opening_is : (which : ℕ) (s : List ℕ) (p : Plan) → p ≡ opened_of which s → p.listed.answer ≡ opening_on which s
-unfolding opened_of opened_for refused opening_of
-opening_is which s p p_is = ap (λ x. x.listed.answer) p_is ∙ go (seen_rows which s)
-  where
-    go : (x : Seen Row) → (opened_for (refusal_of which) x (first_of which s)).listed.answer ≡ opening_of (refusal_of which) x
-    go too_long = refl
-    go unreadable = refl
-    go (listed rows) = refl
+-- ---- the first row that starts at or past a position, as code finds it
+
+module _ (at : ℕ) where
+  abbrev starts_from : Row → Bool
+  starts_from r = leb at r.start
+
+  abbrev same_row : Option Row → std.Option Row
+  same_row none = None
+  same_row (some r) = Some r
+
+  same_find : (rows : List Row) → find starts_from rows ≡ same_row (row_from at rows)
+  unfolding row_from
+  same_find [] = refl
+  same_find (r ∷ rows) = go (starts_from r) (same_find rows)
+    where
+      go : (t : Bool) → find starts_from rows ≡ same_row (row_from at rows) → cond t (Some r) (find starts_from rows) ≡ same_row (cond t (some r) (row_from at rows))
+      go true e = refl
+      go false e = e
+
+  found_shows : (rows : List Row) (r : Row) → find starts_from rows ≡ Some r → record { row = Some r; at = r.start + r.length } ≡ row_or_end (row_from at rows) at
+  unfolding row_or_end
+  found_shows rows r e = go (row_from at rows) (sym (same_find rows) ∙ e)
+    where
+      go : (o : Option Row) → same_row o ≡ Some r → record { row = Some r; at = r.start + r.length } ≡ row_or_end o at
+      go none e = absurd (end_or_row e)
+      go (some q) e =
+          let k : q ≡ r = cc in
+          rw k
+
+  none_ends : (rows : List Row) → find starts_from rows ≡ None → record { row = None; at = at } ≡ row_or_end (row_from at rows) at
+  unfolding row_or_end
+  none_ends rows e = go (row_from at rows) (sym (same_find rows) ∙ e)
+    where
+      go : (o : Option Row) → same_row o ≡ None → record { row = None; at = at } ≡ row_or_end o at
+      go none e = refl
+      go (some q) e = absurd (end_or_row (sym e))
 
 -- a position after a row lies within the string
-view_fits : (which : ℕ) (s : List ℕ) (at : ℕ) (r : Row) (p : ℕ) → view_on which s at ≡ record { sight = Name r; at = p } → p ≤ length s
+view_fits : (which : ℕ) (s : List ℕ) (at : ℕ) (r : Row) (p : ℕ) → view_on which s at ≡ record { row = Some r; at = p } → p ≤ length s
 unfolding view_of row_or_end
 view_fits which s at r p e = go (seen_rows which s) refl e
   where
-    found : (rows : List Row) → seen_rows which s ≡ listed rows → (o : Option Row) → row_from at rows ≡ o → row_or_end o at ≡ record { sight = Name r; at = p } → p ≤ length s
-    found rows f none g e = absurd (end_or_row (ap (λ v. v.sight) e))
+    found : (rows : List Row) → seen_rows which s ≡ listed rows → (o : Option Row) → row_from at rows ≡ o → row_or_end o at ≡ record { row = Some r; at = p } → p ≤ length s
+    found rows f none g e = absurd (end_or_row (ap (λ v. v.row) e))
     found rows f (some q) g e = subst (λ x. x ≤ length s) (ap (λ v. v.at) e) (row_within rows (rows_laid which s rows f) at q g)
 
-    go : (x : Seen Row) → seen_rows which s ≡ x → view_of x at ≡ record { sight = Name r; at = p } → p ≤ length s
-    go too_long f e = absurd (end_or_row (ap (λ v. v.sight) e))
-    go unreadable f e = absurd (end_or_row (ap (λ v. v.sight) e))
+    go : (x : Seen Row) → seen_rows which s ≡ x → view_of x at ≡ record { row = Some r; at = p } → p ≤ length s
+    go too_long f e = absurd (end_or_row (ap (λ v. v.row) e))
+    go unreadable f e = absurd (end_or_row (ap (λ v. v.row) e))
     go (listed rows) f e = found rows f (row_from at rows) refl e
 
--- ---- the loop
+-- ---- a string that is opened
 
--- what n - i steps from a cursor find is what the listing shows
-unfoldable pub Left : ℕ → List ℕ → ℕ → ℕ → ℕ → Cursor → Type 0
-Left which s at n i c = row_or_end (row_from at (rows_by (step_of which s) (n - i) c)) at ≡ view_on which s at
+module _ (which : ℕ) (source : Source) (source_is : source ≡ source_of which) (bytes : Bor (List ℕ)) (o : Result Names Refusal) (o_is : o ≡ opened_of source bytes) where
+  opened_is : o ≡ opened_for (source_of which) bytes (seen_rows which bytes.now)
+  unfolding opened_of
+  opened_is = o_is ∙ rw (source_is, seen_rows_is which bytes.now)
 
-by_none : (step : Cursor → Step) (n : ℕ) (c : Cursor) → n ≡ 0 → rows_by step n c ≡ []
-unfolding rows_by
-by_none step zero c e = refl
-by_none step (suc n) c e = absurd (omega arith)
-
-by_some : (step : Cursor → Step) (n m : ℕ) (c : Cursor) → n ≡ suc m → rows_by step n c ≡ (step c).row ∷ rows_by step m (step c).next
-unfolding rows_by
-by_some step zero m c e = absurd (omega arith)
-by_some step (suc n) m c e =
-    let k : n ≡ m = omega arith in
-    rw k
-
-module _ (which : ℕ) (s : List ℕ) (at : ℕ) where
-  pub view_start : (p : Plan) → p ≡ opened_of which s → Left which s at p.rows 0 p.first
-  unfolding Left opened_of opened_for refused view_of
-  view_start p p_is = subst Starts (sym p_is) (go (seen_rows which s) refl)
+  pub opening_accepted : (names : Names) → o ≡ Ok names → 0 ≡ opening_on which bytes.now
+  unfolding opened_for opening_of
+  opening_accepted names e = go (seen_rows which bytes.now) (sym opened_is ∙ e)
     where
-      -- what the steps of a plan find
-      found : Plan → View
-      found x = row_or_end (row_from at (rows_by (step_of which s) (x.rows - 0) x.first)) at
+      go : (x : Seen Row) → opened_for (source_of which) bytes x ≡ Ok names → 0 ≡ opening_of (refusal_of which) x
+      go too_long e = let z : ◌≡◌ {A = ℕ} 0 1 = cc in absurd (omega arith)
+      go unreadable e = let z : ◌≡◌ {A = ℕ} 0 1 = cc in absurd (omega arith)
+      go (listed rows) e = refl
 
-      Starts : Plan → Type 0
-      Starts x = found x ≡ view_on which s at
+  pub opening_refused : (why : Refusal) → o ≡ Err why → (answer : ℕ) → answer ≡ answer_of why → answer ≡ opening_on which bytes.now
+  unfolding opened_for opening_of
+  opening_refused why e answer answer_is = answer_is ∙ go (seen_rows which bytes.now) (sym opened_is ∙ e)
+    where
+      go : (x : Seen Row) → opened_for (source_of which) bytes x ≡ Err why → answer_of why ≡ opening_of (refusal_of which) x
+      go too_long e =
+          let k : InputTooLong ≡ why = cc in
+          rw (← k)
+      go unreadable e =
+          let k : unreadable_of (source_of which) ≡ why = cc in
+          rw (← k) (refusal_is which)
+      go (listed rows) e = let z : ◌≡◌ {A = ℕ} 0 1 = cc in absurd (omega arith)
 
-      no_rows : (c : Cursor) → row_or_end (row_from at (rows_by (step_of which s) (0 - 0) c)) at ≡ row_or_end none at
-      no_rows c = ap (λ l. row_or_end (row_from at l) at) (by_none _ _ c refl) ∙ ap (λ o. row_or_end o at) (row_none at)
+  pub view_refused : (why : Refusal) → o ≡ Err why → (at : ℕ) → record { row = None; at = at } ≡ view_on which bytes.now at
+  unfolding opened_for view_of row_or_end
+  view_refused why e at = go (seen_rows which bytes.now) (sym opened_is ∙ e)
+    where
+      go : (x : Seen Row) → opened_for (source_of which) bytes x ≡ Err why → record { row = None; at = at } ≡ view_of x at
+      go too_long e = refl
+      go unreadable e = refl
+      go (listed rows) e = let z : ◌≡◌ {A = ℕ} 0 1 = cc in absurd (omega arith)
 
-      go : (x : Seen Row) → seen_rows which s ≡ x → found (opened_for (refusal_of which) x (first_of which s)) ≡ view_of x at
-      go too_long e = no_rows _
-      go unreadable e = no_rows _
-      go (listed rows) e =
-          let k : length rows - 0 ≡ length rows = omega arith in
-          ap (λ l. row_or_end (row_from at l) at) (ap (λ m. rows_by (step_of which s) m (first_of which s)) k ∙ all_shown which s e)
+  module _ (names : Names) (e : o ≡ Ok names) where
+    rows_are : seen_rows which bytes.now ≡ listed (rows_left names.rows)
+    unfolding opened_for
+    rows_are = go (seen_rows which bytes.now) refl (sym opened_is ∙ e)
+      where
+        go : (x : Seen Row) → seen_rows which bytes.now ≡ x → opened_for (source_of which) bytes x ≡ Ok names → x ≡ listed (rows_left names.rows)
+        go too_long f e = let z : ◌≡◌ {A = ℕ} 0 1 = cc in absurd (omega arith)
+        go unreadable f e = let z : ◌≡◌ {A = ℕ} 0 1 = cc in absurd (omega arith)
+        go (listed rows) f e =
+            let k : record { count = length rows; rows = walk_of (source_of which) bytes } ≡ names = cc in
+            rw (← k) (ap listed (sym (all_shown (source_of which) bytes.now (sym (seen_rows_is which bytes.now) ∙ f))))
 
-  module _ (n i : ℕ) (c : Cursor) (left : Left which s at n i c) where
-    pub view_over : n ≤ i → record { sight = End; at = at } ≡ view_on which s at
-    unfolding Left row_or_end
-    view_over h =
-        sym (ap (λ l. row_or_end (row_from at l) at) (by_none (step_of which s) (n - i) c (omega arith)) ∙ ap (λ o. row_or_end o at) (row_none at)) ∙ left
+    pub view_shows : (at : ℕ) (r : Row) → find (starts_from at) (rows_left names.rows) ≡ Some r → record { row = Some r; at = r.start + r.length } ≡ view_on which bytes.now at
+    unfolding view_of
+    view_shows at r found = found_shows at (rows_left names.rows) r found ∙ ap (λ x. view_of x at) (sym rows_are)
 
-    module _ (h : i < n) (t : Step) (t_is : t ≡ step_of which s c) where
-      rows_are : rows_by (step_of which s) (n - i) c ≡ t.row ∷ rows_by (step_of which s) (n - (i + 1)) t.next
-      rows_are = by_some (step_of which s) (n - i) (n - (i + 1)) c (omega arith)
-          ∙ ap (λ x. x.row ∷ rows_by (step_of which s) (n - (i + 1)) x.next) (sym t_is)
+    pub view_ends : (at : ℕ) → find (starts_from at) (rows_left names.rows) ≡ None → record { row = None; at = at } ≡ view_on which bytes.now at
+    unfolding view_of
+    view_ends at found = none_ends at (rows_left names.rows) found ∙ ap (λ x. view_of x at) (sym rows_are)
 
-      pub view_next : t.row.start < at → Left which s at n (i + 1) t.next
-      unfolding Left
-      view_next l = sym (ap (λ x. row_or_end (row_from at x) at) rows_are ∙ ap (λ o. row_or_end o at) (row_later at t.row _ l)) ∙ left
+    pub past_fits : (at : ℕ) (r : Row) → find (starts_from at) (rows_left names.rows) ≡ Some r → r.start + r.length ≤ length bytes.now
+    past_fits at r found = view_fits which bytes.now at r (r.start + r.length) (sym (view_shows at r found))
 
-      pub view_shows : at ≤ t.row.start → record { sight = Name t.row; at = t.row.start + t.row.length } ≡ view_on which s at
-      unfolding Left row_or_end
-      view_shows l = sym (ap (λ x. row_or_end (row_from at x) at) rows_are ∙ ap (λ o. row_or_end o at) (row_here at t.row _ l)) ∙ left
+-- ---- what `find` of a walk answers
 
-      pub past_fits : (m : ℕ) → at ≤ t.row.start → length s < m → t.row.start + t.row.length < m
-      past_fits m l f = let k = view_fits which s at t.row (t.row.start + t.row.length) (sym (view_shows l)) in omega arith
+pub walk_finds : {F : Type 0} {g : Mut F (Bor Row × Unit {0}) Bool} {s : Rows} (at : ℕ) (u : Rows) (f : F) (r : std.Option Row)
+    → (xs : List Row) × (j : F) × YieldsThen (YieldsFirst rows_left) s xs r u × FoldsTo (λ p x q. CalledAt g p x false q) f xs j × MatchOption r ⊤ (λ x. (h : F) × CalledAt g j x true h)
+    → ((x : Row) (b : Bool) (q : F) → CalledAt g f x b q → (q ≡ f) × (b ≡ starts_from at x))
+    → r ≡ find (starts_from at) (rows_left s)
+walk_finds {s} at u f r ran test =
+    same r ∙ find_from_yields_List (starts_from at) u f r ran (YieldsList-from_first (λ x. x) rows_left (rows_left s) refl) test
+  where
+    same : (r : std.Option Row) → r ≡ option_map (λ x. x) r
+    same (Some r) = refl
+    same None = refl

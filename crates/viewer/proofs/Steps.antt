@@ -6,7 +6,7 @@ use mathlib.Core.List.{List}
 use denote.Ref.{Bor}
 use Rattle.rules.specs.Viewer.{opening_at}
 use Rattle.reading.specs.Calls.{view_on}
-use Rattle.demands.specs.Viewing.{nth_at, nth_sight}
+use Rattle.demands.specs.Viewing.{nth_at, nth_row}
 use Rattle.viewer.specs.Viewers.{opened_by, stepped_by}
 use Rattle.viewer.specs.declared.Viewer.{Viewer}
 
@@ -15,12 +15,12 @@ abbrev pub stepped : ℕ → Viewer → Viewer
 stepped zero v = v
 stepped (suc n) v = stepped n (stepped_by v).viewer
 
-pub steps_show : (n : ℕ) (v : Viewer) → (stepped_by (stepped n v)).sight ≡ nth_sight (view_on v.which v.der.now) v.at n
-unfolding nth_sight nth_at
+pub steps_show : (n : ℕ) (v : Viewer) → (stepped_by (stepped n v)).row ≡ nth_row (view_on v.which v.der.now) v.at n
+unfolding nth_row nth_at
 steps_show zero v = refl
 steps_show (suc n) v = steps_show n (stepped_by v).viewer
 
 -- and from an opening
 pub opened_show : (n : ℕ) (der : Bor (List ℕ)) (which : ℕ)
-    → (stepped_by (stepped n (opened_by der which).viewer)).sight ≡ nth_sight (view_on which der.now) opening_at n
+    → (stepped_by (stepped n (opened_by der which).viewer)).row ≡ nth_row (view_on which der.now) opening_at n
 opened_show n der which = steps_show n (opened_by der which).viewer

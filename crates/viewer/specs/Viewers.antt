@@ -17,6 +17,6 @@ opened_by der which = record {
 -- what is shown from its position, and the same bytes and string at the position after that
 abbrev pub stepped_by : Viewer → Stepped
 stepped_by v = record {
-  sight = (view_on v.which v.der.now v.at).sight;
+  row = (view_on v.which v.der.now v.at).row;
   viewer = record { der = v.der; which = v.which; at = (view_on v.which v.der.now v.at).at };
 }

@@ -1,14 +1,14 @@
 // The help desk's viewer (request 3/13): it holds the certificate bytes and its position, and each step shows one row. `view_at`
 // does the work over plain parameters; `open` and `step` are thin. A row's group is a count from the start of the string, so each
 // step reads the string from there. `which` is 0 for the SAN, 1 for the subject, any other number for the constraints.
-#![tactic(auto)]
+#![tactic(auto, using(crate::proofs::Laws::laws))]
 
 ghost use Rattle.std.specs.Prelude.{◌≡◌};
 ghost use Rattle.reading.specs.Calls.{opening_on, view_on};
 ghost use Rattle.viewer.specs.Viewers.{opened_by, stepped_by};
 
-use listing::{opened, step_at};
-use rules::{Sight, View};
+use listing::opened;
+use rules::{Row, View};
 
 // "a viewer that holds the certificate bytes and its position, for each of the three strings"
 #[derive(Drop)]
@@ -28,7 +28,7 @@ pub struct Opened<'a> {
 // What a step shows, and the viewer after it.
 #[derive(Drop)]
 pub struct Stepped<'a> {
-    pub sight: Sight,
+    pub row: Option<Row>,
     pub viewer: Viewer<'a>,
 }
 
@@ -36,8 +36,10 @@ pub struct Stepped<'a> {
 pub fn opening(der: &[u8], which: usize) -> usize
     ensures { result ≡ opening_on which der.now }
 {
-    let p = opened(der, which);
-    p.listed.answer
+    match opened(der, which.into()) {
+        Ok(_) => rules::ACCEPTED,
+        Err(refusal) => refusal.into(),
+    }
 }
 
 // "Each step shows the first row of 01's listing that starts at or past the position, whatever position it's handed; if there is
@@ -45,27 +47,15 @@ pub fn opening(der: &[u8], which: usize) -> usize
 pub fn view_at(der: &[u8], which: usize, at: usize) -> View
     ensures { result ≡ view_on which der.now at }
 {
-    let p = opened(der, which);
-    let n = p.rows;
-    let mut c = p.first;
-    let mut i = 0;
-    while i < n {
-        let t = step_at(der, which, c);
-        let row = t.row;
-        let start = row.start;
-        if at <= start {
-            let past = start + row.length;
-            return View {
-                sight: Sight::Name(row),
-                at: past,
-            };
-        }
-        c = t.next;
-        i += 1;
-    }
-    View {
-        sight: Sight::End,
-        at: at,
+    let Ok(mut names) = opened(der, which.into()) else {
+        return View { row: None, at };
+    };
+    match names.rows.find(|row| at <= row.start) {
+        Some(row) => View {
+            row: Some(row),
+            at: row.start + row.length,
+        },
+        None => View { row: None, at },
     }
 }
 
@@ -73,14 +63,9 @@ pub fn view_at(der: &[u8], which: usize, at: usize) -> View
 pub fn open<'a>(der: &'a [u8], which: usize) -> Opened<'a>
     ensures { result ≡ opened_by der.entry which }
 {
-    let answer = opening(der, which);
     Opened {
-        answer: answer,
-        viewer: Viewer {
-            der: der,
-            which: which,
-            at: 0,
-        },
+        answer: opening(der, which),
+        viewer: Viewer { der, which, at: 0 },
     }
 }
 
@@ -88,14 +73,10 @@ pub fn open<'a>(der: &'a [u8], which: usize) -> Opened<'a>
 pub fn step<'a>(v: Viewer<'a>) -> Stepped<'a>
     ensures { result ≡ stepped_by v.entry }
 {
-    let view = view_at(v.der, v.which, v.at);
+    let View { row, at } = view_at(v.der, v.which, v.at);
     Stepped {
-        sight: view.sight,
-        viewer: Viewer {
-            der: v.der,
-            which: v.which,
-            at: view.at,
-        },
+        row,
+        viewer: Viewer { at, ..v },
     }
 }
 
@@ -103,13 +84,13 @@ pub fn step<'a>(v: Viewer<'a>) -> Stepped<'a>
 pub fn viewed(der: &[u8], which: usize, position: usize) -> View
     ensures { result ≡ view_on which der.now position }
 {
-    let t = step(Viewer {
-        der: der,
-        which: which,
+    let stepped = step(Viewer {
+        der,
+        which,
         at: position,
     });
     View {
-        sight: t.sight,
-        at: t.viewer.at,
+        row: stepped.row,
+        at: stepped.viewer.at,
     }
 }

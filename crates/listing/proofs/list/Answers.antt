@@ -1,39 +1,19 @@
-use Rattle.std.proofs.Common.{rules, ◌≡◌, ◌≤◌, ◌<◌, length, refl, ◌∙◌, arith, zero-le}
-use Rattle.steps.specs.Walks.{rows_by}
-use Rattle.listing.specs.Steps.{step_of}
-use Rattle.listing.proofs.Fill.{set_next, next_after}
-use Rattle.listing.proofs.Table.{rows_fit, listed_is, table_is}
+use Rattle.std.proofs.Common.{sym, ◌∙◌}
+use Rattle.listing.proofs.Table.{list_refused, list_fits}
 use Rattle.listing.proofs.list.Goals as goal
 
-pub loop-i-init : goal.loop-i-init
-unfolding rows_by
-loop-i-init c = (zero-le, refl, refl)
+pub fill-requires : goal.fill-requires
+fill-requires c =
+    let plan = rw c.into.ensures at (sym c.planned.ensures ∙ c.in-Ok.is) in
+    (list_fits c.args.which c.args.bytes c.args.table.now _ plan).rows
 
-pub offset_bounds-table-i : goal.offset_bounds-table-i
-offset_bounds-table-i c =
-    let fits : c.planned-p.result.rows ≤ length c.args.table.now = rw c.planned-p.ensures (rows_fit c.args.which c.args.bytes.now (length c.args.table.now)) in
-    let below : c.loop-i.i < length c.loop-i.table = omega arith in
-    search rules
+pub returns-in-Ok : goal.returns-in-Ok
+returns-in-Ok c =
+    let plan = rw c.into.ensures at (sym c.planned.ensures ∙ c.in-Ok.is) in
+    let names = list_fits c.args.which c.args.bytes c.args.table.now _ plan in
+    (names.listing, c.fill.ensures ∙ names.filled)
 
-pub bounds-table-i : goal.bounds-table-i
-bounds-table-i c =
-    let fits : c.planned-p.result.rows ≤ length c.args.table.now = rw c.planned-p.ensures (rows_fit c.args.which c.args.bytes.now (length c.args.table.now)) in
-    omega arith
-
--- the row is that of the step at the cursor after i steps
-pub loop-i-preserved : goal.loop-i-preserved
-loop-i-preserved c =
-    let fits : c.planned-p.result.rows ≤ length c.args.table.now = rw c.planned-p.ensures (rows_fit c.args.which c.args.bytes.now (length c.args.table.now)) in
-    let step = step_of c.args.which c.args.bytes.now in
-    let inv = c.loop-i.invariant in (
-      omega arith,
-      rw (c.step_at-t.ensures, inv.2, inv.1) (set_next step c.loop-i.i c.planned-p.result.first c.args.table.now (omega arith)),
-      rw (c.step_at-t.ensures, inv.2) (next_after step c.loop-i.i c.planned-p.result.first),
-    )
-
-pub returns : goal.returns
-returns c =
-    let all : c.loop-i.i ≡ c.planned-p.result.rows = omega arith in (
-      rw c.planned-p.ensures (listed_is c.args.which c.args.bytes.now (length c.args.table.now)),
-      c.loop-i.invariant.1 ∙ rw (all, c.planned-p.ensures) (table_is c.args.which c.args.bytes.now c.args.table.now),
-    )
+pub returns-in-Err : goal.returns-in-Err
+returns-in-Err c =
+    let plan = rw c.into.ensures at (sym c.planned.ensures ∙ c.in-Err.is) in
+    rw c.into-in-Err.ensures (list_refused c.args.which c.args.bytes c.args.table.now _ plan)

@@ -1,9 +1,5 @@
-use Rattle.std.proofs.Common.{rules}
-use Rattle.listing.proofs.Laws.{laws}
+use Rattle.listing.proofs.Planning.{plan_refused}
 use Rattle.listing.proofs.planned.Goals as goal
 
-pub returns-then-k-lent : goal.returns-then-k-lent
-returns-then-k-lent c = search (rules, laws)
-
-pub returns : goal.returns
-returns c = search (rules, laws)
+pub returns-in_err-names : goal.returns-in_err-names
+returns-in_err-names c = plan_refused _ _ _ _ c.opened.ensures _ c.in_err-names.was _ c.from_residual.ensures.1

@@ -1,9 +1,5 @@
-use Rattle.std.proofs.Common.{rules}
-use Rattle.steps.proofs.Laws.{subject_laws}
+use Rattle.steps.proofs.Stepping.{set_found}
 use Rattle.steps.proofs.open_set.Goals as goal
 
-pub returns-in_default : goal.returns-in_default
-returns-in_default c = search (rules, subject_laws)
-
-pub returns : goal.returns
-returns c = search (rules, subject_laws)
+pub returns-in-Ok : goal.returns-in-Ok
+returns-in-Ok c = set_found _ _ _ _ _ c.tagged.ensures _ c.in-Ok.is c.into_part.ensures

@@ -1,9 +1,5 @@
-use Rattle.std.proofs.Common.{rules}
-use Rattle.steps.proofs.Laws.{constraints_laws}
+use Rattle.steps.proofs.Stepping.{side_found}
 use Rattle.steps.proofs.open_side.Goals as goal
 
-pub returns-in_default : goal.returns-in_default
-returns-in_default c = search (rules, constraints_laws)
-
-pub returns : goal.returns
-returns c = search (rules, constraints_laws)
+pub returns-in-Ok : goal.returns-in-Ok
+returns-in-Ok c = side_found _ _ _ _ c.read_element.ensures _ c.in-Ok.is _ c.wide.ensures.0 c.into_part.ensures

@@ -1,6 +1,5 @@
-use Rattle.std.proofs.Common.{rules}
-use Rattle.viewer.proofs.Laws.{laws}
+use Rattle.viewer.proofs.Finding.{opening_refused}
 use Rattle.viewer.proofs.opening.Goals as goal
 
-pub returns : goal.returns
-returns c = search (rules, laws)
+pub returns-in-Err : goal.returns-in-Err
+returns-in-Err c = opening_refused _ _ c.into.ensures _ _ c.opened.ensures _ c.in-Err.is _ c.into-in-Err.ensures
