@@ -21,11 +21,11 @@ use Rattle.reading.proofs.Codec.{items_c}
 use Rattle.reading.specs.Codecs.{good_filled}
 use Rattle.reading.proofs.Codecs.{side_c}
 use Rattle.reading.specs.Groups.{members}
-use Rattle.der.proofs.Elements.{not_found}
-use Rattle.der.specs.Places.{element_at, found?}
+use Rattle.std.specs.Prelude.{Ok, Err}
+use Rattle.der.specs.Places.{Answer, element_at, found?}
 use Rattle.der.specs.Reads.{found_read}
 use Rattle.der.specs.declared.Element.{Element}
-use Rattle.der.specs.declared.Element.TheVariants.{Found, Truncated, BadLength, BadTag}
+use Rattle.der.specs.declared.ElementError.{ElementError}
 use Rattle.der.specs.Runs.{Readable, items_in, run_is, no_items, no_run, First, no_element_lem, first, validated, names_of, valid_cases, content_start, start_found, nothing_read, content_read, filled}
 use Rattle.constrained.specs.declared.Part.{Part}
 use Rattle.constrained.specs.Subtrees.{texts_of, texts_in, small, SideRun, content_at, nowhere, part_of, Side, BothSides}
@@ -144,7 +144,7 @@ one_side s k t b n g w h fits e = record {
 
 -- ---- the whole string
 
-module _ (s : List ℕ) (e : Element) (e_is : e ≡ element_at s 0 (length s)) where
+module _ (s : List ℕ) (e : Answer) (e_is : e ≡ element_at s 0 (length s)) where
   -- no element, no names
   none_listed : found? e ≡ false → names_of read_constraints s ≡ []
   unfolding names_of read_constraints read_sides
@@ -152,18 +152,20 @@ module _ (s : List ℕ) (e : Element) (e_is : e ≡ element_at s 0 (length s)) w
       let k : read_sides s ≡ none = nothing_read s e e_is _ q in
       rw k
 
-  pub sides_none : found? e ≡ false → BothSides s (record { permitted = nowhere; excluded = nowhere })
+  pub sides_none : (why : ElementError) → e ≡ Err why → BothSides s (record { permitted = nowhere; excluded = nowhere })
   unfolding subtrees_of
-  sides_none q = record {
-    inside = no_side s permitted (λ form. rw (none_listed q));
-    outside = no_side s excluded (λ form. rw (none_listed q));
-  }
+  sides_none why refused =
+      let q : found? e ≡ false = rw refused in
+      record {
+        inside = no_side s permitted (λ form. rw (none_listed q));
+        outside = no_side s excluded (λ form. rw (none_listed q));
+      }
 
   -- the content of constraints that have been validated is the run of their sides
-  pub side_run : validated read_constraints s ≡ true → (t b n : ℕ) → e ≡ Found t b n → SideRun s b (length s)
+  pub side_run : validated read_constraints s ≡ true → (x : Element) → e ≡ Ok x → SideRun s x.start (length s)
   unfolding names_of read_constraints read_sides
-  side_run valid t b n found =
-      let r = found_read s (length s) (omega arith) 0 (omega arith) t b n (sym e_is ∙ found) in
+  side_run valid x found =
+      let r = found_read s (length s) (omega arith) 0 (omega arith) x (sym e_is ∙ found) in
       valid_cases read_constraints s valid (λ q. absurd (omega (arith, r.head, r.body, r.rest, ap length q))) λ l p.
       then_some (read_sides s) _ p λ gs u v.
       let w = content_read _ s gs u in
@@ -173,7 +175,7 @@ module _ (s : List ℕ) (e : Element) (e_is : e ≡ element_at s 0 (length s)) w
       let k = filled read_side s hs (content_start s) w.within y in
       let parts = and_parts (some? hs) (chain rising hs) good in
       let lows = all_weaken good_filled small low_number hs ((items_c side_c).sound (slice (content_start s) (length s) s) y).0 in
-      rw (start_found s e e_is t b n found)
+      rw (start_found s e e_is x found)
       (record {
         sides = k.elements;
         low = rw k.list lows;
@@ -184,7 +186,7 @@ module _ (s : List ℕ) (e : Element) (e_is : e ≡ element_at s 0 (length s)) w
 
 -- ---- one side or two
 
-module _ (s : List ℕ) (start end : ℕ) (run : SideRun s start end) (e : Element) (e_is : e ≡ element_at s start end) where
+module _ (s : List ℕ) (start end : ℕ) (run : SideRun s start end) (e : Answer) (e_is : e ≡ element_at s start end) where
   -- there is a first side
   more : start < end
   more = go (leb end start) refl
@@ -198,12 +200,21 @@ module _ (s : List ℕ) (start end : ℕ) (run : SideRun s start end) (e : Eleme
   no_first : found? e ≡ false → ⊥
   no_first = no_element_lem read_side s start end run.sides more e e_is
 
-  pub sides_missing : found? e ≡ false → BothSides s (record { permitted = nowhere; excluded = nowhere })
-  sides_missing q = absurd (no_first q)
+  pub sides_missing : (why : ElementError) → e ≡ Err why → BothSides s (record { permitted = nowhere; excluded = nowhere })
+  sides_missing why refused = absurd (no_first (rw refused))
 
-  module _ (t b n : ℕ) (found : e ≡ Found t b n) where
+  module _ (el : Element) (found : e ≡ Ok el) where
+    abbrev t : ℕ
+    t = el.tag
+
+    abbrev b : ℕ
+    b = el.start
+
+    abbrev n : ℕ
+    n = el.next
+
     one : First read_side s start end t b n
-    one = first read_side s start end run.sides more e e_is t b n found
+    one = first read_side s start end run.sides more e e_is el found
 
     one_at : SideAt s t b n one.item
     one_at = side_at_lem s t b n one.item one.item_is
@@ -239,7 +250,7 @@ module _ (s : List ℕ) (start end : ℕ) (run : SideRun s start end) (e : Eleme
           outside = one_side s excluded t b n g one_at side_order side_fits (λ form. rw (← l, ← k) (one_own form g));
         }
 
-    module _ (other : t ≡ 0xA1 → ⊥) (f : Element) (f_is : f ≡ element_at s n end) where
+    module _ (other : t ≡ 0xA1 → ⊥) (f : Answer) (f_is : f ≡ element_at s n end) where
       -- a first side that is not the excluded one is the permitted one
       number_is : one.item.number ≡ 0
       number_is = omega (arith, one_at.number_is, one_at.low, not_one)
@@ -263,14 +274,23 @@ module _ (s : List ℕ) (start end : ℕ) (run : SideRun s start end) (e : Eleme
               rw k (no_items read_side s end)
           nothing_more false d = absurd (no_element_lem read_side s n end one.others (leb-false end n d) f f_is q)
 
-      module _ (t' b' n' : ℕ) (f_found : f ≡ Found t' b' n') where
+      module _ (ex : Element) (f_found : f ≡ Ok ex) where
+        abbrev t' : ℕ
+        t' = ex.tag
+
+        abbrev b' : ℕ
+        b' = ex.start
+
+        abbrev n' : ℕ
+        n' = ex.next
+
         more_left : n < end
         more_left =
-            let r = found_read s end run.sides.fits n one.read.rest t' b' n' (sym f_is ∙ f_found) in
+            let r = found_read s end run.sides.fits n one.read.rest ex (sym f_is ∙ f_found) in
             omega (arith, r.head, r.body, r.rest)
 
         two : First read_side s n end t' b' n'
-        two = first read_side s n end one.others more_left f f_is t' b' n' f_found
+        two = first read_side s n end one.others more_left f f_is ex f_found
 
         -- both
         sides_both : BothSides s (record { permitted = record { start = b; end = n }; excluded = record { start = b'; end = n' } })
@@ -291,37 +311,23 @@ module _ (s : List ℕ) (start end : ℕ) (run : SideRun s start end) (e : Eleme
     unfolding content_at
     sides_two other r r_is = rw r_is (go (element_at s n end) refl)
       where
-        go : (f : Element) → f ≡ element_at s n end → BothSides s (record { permitted = record { start = b; end = n }; excluded = part_of f })
-        go (Found t' b' n') f_is = sides_both other _ f_is t' b' n' refl
-        go Truncated f_is = sides_permitted other _ f_is refl
-        go BadLength f_is = sides_permitted other _ f_is refl
-        go BadTag f_is = sides_permitted other _ f_is refl
+        go : (f : Answer) → f ≡ element_at s n end → BothSides s (record { permitted = record { start = b; end = n }; excluded = part_of f })
+        go (Ok ex) f_is = sides_both other _ f_is ex refl
+        go (Err why) f_is = sides_permitted other _ f_is refl
 
 -- ---- the content of an element
 
-module _ (s : List ℕ) (at end : ℕ) (e : Element) (e_is : e ≡ element_at s at end) where
-  pub content_none : found? e ≡ false → nowhere ≡ content_at s at end
+module _ (s : List ℕ) (at end : ℕ) (e : Answer) (e_is : e ≡ element_at s at end) where
+  pub content_none : (why : ElementError) → e ≡ Err why → nowhere ≡ content_at s at end
   unfolding content_at
-  content_none q = rw (← e_is) (go e q)
-    where
-      go : (f : Element) → found? f ≡ false → nowhere ≡ part_of f
-      go (Found t b n) d = let z : ◌≡◌ {A = ℕ} 0 1 = cc in absurd (omega arith)
-      go Truncated d = refl
-      go BadLength d = refl
-      go BadTag d = refl
+  content_none why refused = rw (← e_is, refused)
 
-  pub content_is : (t b n : ℕ) → e ≡ Found t b n → record { start = b; end = n } ≡ content_at s at end
+  pub content_is : (x : Element) → e ≡ Ok x → record { start = x.start; end = x.next } ≡ content_at s at end
   unfolding content_at
-  content_is t b n found = rw (← e_is, found)
+  content_is x found = rw (← e_is, found)
 
-pub ruleset laws = (
-  not_found,
-  sides_none,
-  side_run,
-  sides_missing,
-  side_next,
-  sides_excluded,
-  sides_two,
-  content_none,
-  content_is,
-)
+pub ruleset contents = (content_none, content_is)
+
+pub ruleset whole = (sides_none, side_run)
+
+pub ruleset sides = (sides_missing, side_next, sides_excluded, sides_two)

@@ -1,4 +1,5 @@
-pub mod Texts
+pub mod Walks
+pub mod Meeting
 pub mod Parts
 pub mod Groups
 pub mod Permission

@@ -1,129 +1,80 @@
--- A part of the constraints, one subtree at a time.
+-- Where the first subtree of a form stands in a part.
 use Prim.Native.Nat.{ℕ, ◌≤◌, ◌<◌}
-use mathlib.Core.Path.{◌≡◌, refl}
-use mathlib.Core.Bool.{Bool, true, false, cond, ◌||◌}
-use mathlib.Core.Option.{Option, none, some}
+use mathlib.Core.Path.{◌≡◌, refl, sym, ◌∙◌}
+use mathlib.Core.Bool.{Bool, true, false}
+use mathlib.Core.Option.{none, some}
 use mathlib.Core.List.{List, [], ◌∷◌}
 use native.Mathlib.Omega.{arith}
-use borrow.Author.Tests.{lt-ltb, le-ltb}
+use lib.Dec.{ltb, leb}
+use borrow.Author.Tests.{lt-ltb, le-ltb, leb-true, leb-false}
+use Rattle.octets.proofs.Cases.{by_cases}
+use Rattle.rules.specs.Bytes.{some?}
 use Rattle.rules.specs.San.{GeneralName}
-use Rattle.rules.specs.Matching.{with_some, if_some, Form}
+use Rattle.rules.specs.Matching.{Form}
 use Rattle.reading.specs.Strings.{read_subtree}
-use Rattle.der.specs.Places.{element_at}
-use Rattle.der.specs.Runs.{Run, items_in, start_of, end_of, no_items}
-use Rattle.entries.specs.Entries.{form_of, text_place}
-use Rattle.constrained.specs.Subtrees.{meeting, meets_at, meets_any, texts_of, texts_in, Narrowed}
-use Rattle.entries.proofs.Steps.{step_fits, with_subtree}
-use Rattle.entries.proofs.Texts.{text_there, text_not_there}
-use Rattle.constrained.proofs.Texts.{form_own}
+use Rattle.der.specs.Runs.{items_in, no_items, with_first}
+use Rattle.constrained.specs.Subtrees.{texts_of, texts_in, Narrowed}
+use Rattle.constrained.specs.Walks.{name_in, subtrees_left}
+use Rattle.constrained.specs.declared.ValidName.{ValidName}
+use Rattle.constrained.specs.declared.Subtrees.{Subtrees}
 
--- no subtree is left
-texts_end : (form : Form) (s : List ℕ) (at end : ℕ) → Run read_subtree s at end → end ≤ at → texts_in form s at end ≡ []
-unfolding texts_in texts_of
-texts_end form s at end inv h =
-    let k : at ≡ end = omega (arith, inv.order) in
-    rw (k, no_items read_subtree s end)
+-- a walk that has come to `at` in a part, past subtrees of other forms
+pub record Passed (form : Form) (start : Subtrees) (rest : Subtrees) (at : ℕ) : Type 0 where
+  pub place : rest.at ≡ at
+  pub same : rest.bytes.now ≡ start.bytes.now
+  pub last : rest.end ≡ start.end
+  pub texts : texts_of form (subtrees_left rest) ≡ texts_of form (subtrees_left start)
 
--- one subtree and the others
-texts_step : (form : Form) (s : List ℕ) (at end n : ℕ) (m : GeneralName) → items_in read_subtree s at end ≡ m ∷ items_in read_subtree s n end
-    → texts_in form s at end ≡ with_some (form.text m) (texts_in form s n end)
-unfolding texts_in texts_of
-texts_step form s at end n m e = rw e
+pub passed_begin : (form : Form) (start : Subtrees) → Passed form start start start.at
+passed_begin form start = record { place = refl; same = refl; last = refl; texts = refl }
 
--- ---- the first subtree of the form
+-- a run is at its end where nothing is left, and only there
+left_none : (s : Subtrees) → subtrees_left s ≡ [] → s.end ≤ s.at
+unfolding subtrees_left
+left_none s e = by_cases (leb s.end s.at) (λ q. leb-true s.end s.at q) (λ q.
+    with_first read_subtree s.bytes.now s.at s.end s.run (leb-false s.end s.at q) λ t b n w.
+    let k : [] ≡ w.item ∷ items_in read_subtree s.bytes.now n s.end = sym e ∙ w.list in
+    let z : ◌≡◌ {A = ℕ} 0 1 = cc in absurd (omega arith))
 
--- the part from `at` on has the texts that the part from `start` on has
-unfoldable pub SameTexts : Form → List ℕ → ℕ → ℕ → ℕ → Type 0
-SameTexts form s start end at = texts_in form s at end ≡ texts_in form s start end
+left_some : (s : Subtrees) (m : GeneralName) (l : List GeneralName) → subtrees_left s ≡ m ∷ l → s.at < s.end
+unfolding subtrees_left
+left_some s m l e = by_cases (leb s.end s.at) (λ q.
+    let h : s.at ≡ s.end = omega (arith, leb-true s.end s.at q, s.run.order) in
+    let k : [] ≡ m ∷ l = sym (no_items read_subtree s.bytes.now s.end) ∙ (rw h at e) in
+    let z : ◌≡◌ {A = ℕ} 0 1 = cc in absurd (omega arith)) (λ q. leb-false s.end s.at q)
 
-pub same_begin : (form : Form) (s : List ℕ) (start end : ℕ) → SameTexts form s start end start
-unfolding SameTexts
-same_begin form s start end = refl
+module _ (form : Form) (start rest : Subtrees) (at : ℕ) (inv : Passed form start rest at) where
+  narrowed : (b : Bool) → ltb rest.at rest.end ≡ b → some? (texts_of form (subtrees_left rest)) ≡ b → Narrowed form start.bytes.now start.at start.end at
+  unfolding texts_in subtrees_left
+  narrowed b p q =
+      let t : texts_in form start.bytes.now at start.end ≡ texts_in form start.bytes.now start.at start.end = rw (inv.same, inv.place, inv.last) at inv.texts in
+      let k : ltb at start.end ≡ b = rw (inv.place, inv.last) at p in
+      let l : some? (texts_in form start.bytes.now at start.end) ≡ b = rw (inv.same, inv.place, inv.last) at q in
+      record {
+        subtrees = rw (inv.same, inv.place, inv.last) at rest.run;
+        texts = t;
+        any_there = rw (← t) (l ∙ sym k);
+      }
 
-module _ (kind : ℕ) (s : List ℕ) (start end at : ℕ) (inv : Run read_subtree s at end) (left : SameTexts (form_of kind) s start end at) where
   -- no subtree of the form is left
-  pub narrow_end : end ≤ at → Narrowed (form_of kind) s start end at
-  unfolding SameTexts
-  narrow_end h = record {
-    subtrees = inv;
-    texts = left;
-    any_there = rw (← left, texts_end (form_of kind) s at end inv h, le-ltb at end h);
-  }
+  pub narrow_end : subtrees_left rest ≡ [] → Narrowed form start.bytes.now start.at start.end at
+  unfolding texts_of
+  narrow_end e = narrowed false (le-ltb rest.at rest.end (left_none rest e)) (rw e)
 
-  module _ (more : at < end) (n : ℕ) (n_is : n ≡ end_of (element_at s at end)) (b : ℕ) (b_is : b ≡ start_of (element_at s at end))
-      (r : ℕ) (r_is : r ≡ text_place (form_of kind).text s b n) where
+  module _ (x : ValidName) (t : Subtrees) (step : subtrees_left rest ≡ name_in x ∷ subtrees_left t) where
     -- the subtree is of the form
-    pub narrow_here : r ≤ n → Narrowed (form_of kind) s start end at
-    unfolding SameTexts
-    narrow_here k =
-        with_subtree s at end inv more n n_is b b_is λ m h p q.
-        record {
-          subtrees = inv;
-          texts = left;
-          any_there =
-              rw (← left, texts_step (form_of kind) s at end n m q, lt-ltb at end more, text_there (form_of kind).text s b n r r_is m p (form_own kind) h (step_fits read_subtree s at end inv more n n_is) k);
-        }
+    pub narrow_here : (c : List ℕ) → form.text (name_in x) ≡ some c → Narrowed form start.bytes.now start.at start.end at
+    unfolding texts_of
+    narrow_here c e = narrowed true (lt-ltb rest.at rest.end (left_some rest _ _ step)) (rw (step, e))
 
     -- it is of another, and is passed over
-    pub narrow_next : n < r → SameTexts (form_of kind) s start end n
-    unfolding SameTexts
-    narrow_next k =
-        with_subtree s at end inv more n n_is b b_is λ m h p q.
-        rw (texts_step (form_of kind) s at end n m q, text_not_there (form_of kind).text s b n r r_is m p k) at left
+    pub narrow_next : form.text (name_in x) ≡ none → t.bytes.now ≡ rest.bytes.now → t.end ≡ rest.end → Passed form start t t.at
+    unfolding texts_of
+    narrow_next e same last = record {
+      place = refl;
+      same = same ∙ inv.same;
+      last = last ∙ inv.last;
+      texts = rw (step, e) at inv.texts;
+    }
 
--- ---- meeting a subtree
-
-module _ (kind : ℕ) (x : Bool) (s : List ℕ) (start end : ℕ) (name : List ℕ) where
-  abbrev met : List (List ℕ) → Bool
-  met l = meets_any kind x l name
-
-  -- a name meets a subtree from `at` on where it meets one from `start` on
-  unfoldable pub MeetsLeft : ℕ → Type 0
-  MeetsLeft at = met (texts_in (form_of kind) s at end) ≡ met (texts_in (form_of kind) s start end)
-
-  pub meets_begin : MeetsLeft start
-  unfolding MeetsLeft
-  meets_begin = refl
-
-  module _ (at : ℕ) (inv : Run read_subtree s at end) (left : MeetsLeft at) where
-    -- no subtree is left
-    pub meets_end : end ≤ at → false ≡ met (texts_in (form_of kind) s start end)
-    unfolding MeetsLeft meets_any
-    meets_end h = rw (texts_end (form_of kind) s at end inv h) at left
-
-    module _ (more : at < end) (n : ℕ) (n_is : n ≡ end_of (element_at s at end)) (b : ℕ) (b_is : b ≡ start_of (element_at s at end))
-        (r : Bool) (r_is : r ≡ meets_at kind x s b n name) where
-      -- the name meets this subtree, or one of the others
-      meets_step : met (texts_in (form_of kind) s at end) ≡ cond r true (met (texts_in (form_of kind) s n end))
-      unfolding meets_at meets_any
-      meets_step =
-          with_subtree s at end inv more n n_is b b_is λ m h p q.
-          rw (texts_step (form_of kind) s at end n m q, r_is, p) (go ((form_of kind).text m))
-        where
-          or_is : (p q : Bool) → (p || q) ≡ cond p true q
-          or_is true q = refl
-          or_is false q = refl
-
-          go : (o : Option (List ℕ)) → met (with_some o (texts_in (form_of kind) s n end))
-              ≡ cond (if_some o (λ t. meeting kind x t name)) true (met (texts_in (form_of kind) s n end))
-          go none = refl
-          go (some t) = or_is (meeting kind x t name) _
-
-      pub meets_here : r ≡ true → true ≡ met (texts_in (form_of kind) s start end)
-      unfolding MeetsLeft
-      meets_here q = rw (meets_step, q) at left
-
-      pub meets_next : r ≡ false → MeetsLeft n
-      unfolding MeetsLeft
-      meets_next q = rw (meets_step, q) at left
-
-pub ruleset laws = (
-  same_begin,
-  narrow_end,
-  narrow_here,
-  narrow_next,
-  meets_begin,
-  meets_end,
-  meets_here,
-  meets_next,
-)
+pub ruleset narrowing = (passed_begin, narrow_end, narrow_here, narrow_next)

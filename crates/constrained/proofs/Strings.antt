@@ -19,10 +19,8 @@ use Rattle.reading.specs.Strings.{read_san, read_constraints}
 use Rattle.der.specs.Runs.{validated, names_of}
 use Rattle.issuers.specs.Strings.{strings_in, string_at, fit_count, wrong_none}
 use Rattle.constrained.specs.Breaches.{first_of, breach_of}
-use Rattle.constrained.specs.declared.First.{First}
-use Rattle.constrained.specs.declared.First.TheVariants.{At, Nothing}
-use Rattle.constrained.specs.declared.Breached.{Breached}
-use Rattle.constrained.specs.declared.Breached.TheVariants as breached
+use Rattle.std.specs.Prelude as std
+use Rattle.std.specs.Prelude.{Some, None, IfSome}
 
 -- a test that all pass, at one of them
 all_at : (p : List ℕ → Bool) (l : List (List ℕ)) (k : ℕ) → k < length l → all p l ≡ true → p (get_or l k []) ≡ true
@@ -37,7 +35,7 @@ BreachLeft san lengths bytes k =
     ≡ first_breach 0 (map (names_of read_constraints) (strings_in lengths bytes)) (names_of read_san san)
 
 module _ (san lengths bytes : List ℕ) where
-  abbrev answer : Breached
+  abbrev answer : std.Option Breach
   answer = breach_of (first_breach 0 (map (names_of read_constraints) (strings_in lengths bytes)) (names_of read_san san))
 
   pub breach_begin : BreachLeft san lengths bytes 0
@@ -46,7 +44,7 @@ module _ (san lengths bytes : List ℕ) where
 
   module _ (fit : Bool) (fit_is : fit ≡ lengths_fit lengths (length bytes)) where
     -- the lengths are wrong: there is no string
-    pub breach_wrong : not fit ≡ true → breached.Nothing ≡ answer
+    pub breach_wrong : not fit ≡ true → None ≡ answer
     unfolding breach_of first_breach
     breach_wrong e = rw (wrong_none lengths bytes (sym fit_is ∙ not-true fit e))
 
@@ -62,7 +60,7 @@ module _ (san lengths bytes : List ℕ) where
       count = fit_count lengths bytes fits
 
       module _ (k : ℕ) (inv : BreachLeft san lengths bytes k) where
-        pub breach_end : length lengths ≤ k → breached.Nothing ≡ answer
+        pub breach_end : length lengths ≤ k → None ≡ answer
         unfolding BreachLeft first_breach breach_of
         breach_end h = ap breach_of (rw (drop_of_length-le (strings_in lengths bytes) {i = k} (rw count h)) at inv)
 
@@ -71,47 +69,37 @@ module _ (san lengths bytes : List ℕ) where
           unfolding string_at
           string_valid a = rw s_is (all_at (validated read_constraints) (strings_in lengths bytes) k (rw count h) a)
 
-          module _ (f : First) (f_is : f ≡ first_of (first_broken 0 (names_of read_constraints s) (names_of read_san san))) where
+          module _ (f : std.Option ℕ) (f_is : f ≡ first_of (first_broken 0 (names_of read_constraints s) (names_of read_san san))) where
             split : breach_or k (first_broken 0 (names_of read_constraints s) (names_of read_san san))
                 (first_breach (suc k) (map (names_of read_constraints) (drop (suc k) (strings_in lengths bytes))) (names_of read_san san))
                 ≡ first_breach 0 (map (names_of read_constraints) (strings_in lengths bytes)) (names_of read_san san)
             unfolding BreachLeft first_breach string_at
             split = rw (drop-cons (strings_in lengths bytes) k [] (rw count h), ← s_is) at inv
 
-            found : (i : ℕ) (o : Option ℕ) → f ≡ first_of o → f ≡ At i → o ≡ some i
+            found : (i : ℕ) (o : Option ℕ) → f ≡ first_of o → f ≡ Some i → o ≡ some i
             unfolding first_of
-            found i none p q = let z : ◌≡◌ {A = ℕ} 0 1 = cc in absurd (omega arith)
-            found i (some j) p q = let y : j ≡ i = cc in ap {B = Option ℕ} some y
+            found i none p q = let e : ◌≡◌ {A = std.Option ℕ} None (Some i) = sym p ∙ q in let z : ◌≡◌ {A = ℕ} 0 1 = cc in absurd (omega arith)
+            found i (some j) p q =
+                let e : ◌≡◌ {A = std.Option ℕ} (Some j) (Some i) = sym p ∙ q in
+                let y : j ≡ i = cc in
+                ap {B = Option ℕ} some y
 
-            missed : (o : Option ℕ) → f ≡ first_of o → ((i : ℕ) → f ≡ At i → ⊥) → o ≡ none
+            missed : (o : Option ℕ) → f ≡ first_of o → f ≡ None → o ≡ none
             unfolding first_of
             missed none p q = refl
-            missed (some j) p q = absurd (q j p)
+            missed (some j) p q = let e : ◌≡◌ {A = std.Option ℕ} (Some j) None = sym p ∙ q in let z : ◌≡◌ {A = ℕ} 0 1 = cc in absurd (omega arith)
 
-            pub breach_here : (i : ℕ) → f ≡ At i → breached.At (record { issuer = k; presented = i }) ≡ answer
+            pub breach_here : (i : ℕ) → f ≡ Some i → Some (record { issuer = k; presented = i }) ≡ answer
             unfolding breach_of
             breach_here i q = ap breach_of (rw (found i (first_broken 0 (names_of read_constraints s) (names_of read_san san)) f_is q) at split)
 
-            pub breach_next : f ≡ Nothing → BreachLeft san lengths bytes (k + 1)
+            pub breach_next : f ≡ None → BreachLeft san lengths bytes (k + 1)
             unfolding BreachLeft
-            breach_next q = rw add-one (rw (missed (first_broken 0 (names_of read_constraints s) (names_of read_san san)) f_is not_at) at split)
-              where
-                not_at : (i : ℕ) → f ≡ At i → ⊥
-                not_at i p = let z : ◌≡◌ {A = ℕ} 0 1 = cc in omega arith
+            breach_next q = rw add-one (rw (missed (first_broken 0 (names_of read_constraints s) (names_of read_san san)) f_is q) at split)
 
         -- an issuer's index is small
         pub few_issuers : k < length lengths → k ≤ 8
         few_issuers h = omega (arith, few)
-
--- both numbers of a breach are small
-pub bounds_here : (k i n : ℕ) → k ≤ 8 → i ≤ n → (b : Breach) → breached.At (record { issuer = k; presented = i }) ≡ breached.At b
-    → (b.issuer ≤ 8) × (b.presented ≤ n)
-bounds_here k i n h l b q =
-    let e : record { issuer = k; presented = i } ≡ b = cc in
-    (omega (arith, ap (λ x. x.issuer) e), omega (arith, ap (λ x. x.presented) e))
-
-pub bounds_none : (n : ℕ) (b : Breach) → breached.Nothing ≡ breached.At b → (b.issuer ≤ 8) × (b.presented ≤ n)
-bounds_none n b q = let z : ◌≡◌ {A = ℕ} 0 1 = cc in absurd (omega arith)
 
 pub ruleset laws = (
   breach_begin,
@@ -121,5 +109,4 @@ pub ruleset laws = (
   breach_here,
   breach_next,
   few_issuers,
-  bounds_none,
 )

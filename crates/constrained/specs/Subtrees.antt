@@ -1,32 +1,22 @@
 -- The subtrees of one form in a part of the constraints.
-use Rattle.std.specs.Prelude.{ℕ, ◌≡◌, Bool, cond, ◌||◌, List, [], ◌∷◌, T, ltb}
-use Rattle.rules.specs.Bytes.{some?, all, any, chain}
+use Rattle.std.specs.Prelude.{ℕ, ◌≡◌, Bool, ◌||◌, List, [], ◌∷◌, T, ltb, Ok, Err}
+use Rattle.rules.specs.Bytes.{some?, all, chain}
 use Rattle.rules.specs.Der.{Group}
 use Rattle.rules.specs.San.{GeneralName}
 use Rattle.rules.specs.Constraints.{permitted, excluded}
 use Rattle.rules.specs.Matching.{with_some, if_some, Form, subtrees_of}
-use Rattle.reading.specs.Reader.{then}
 use Rattle.reading.specs.Strings.{flat, read_subtree, read_side, rising, read_constraints}
-use Rattle.der.specs.Places.{element_at}
-use Rattle.der.specs.declared.Element.{Element}
-use Rattle.der.specs.declared.Element.TheVariants.{Found, Truncated, BadLength, BadTag}
+use Rattle.der.specs.Places.{Answer, element_at}
 use Rattle.der.specs.Runs.{Run, items_in, names_of}
-use Rattle.entries.specs.Entries.{form_of, whole_at}
 use Rattle.constrained.specs.declared.Part.{Part}
 use Rattle.constrained.specs.declared.Sides.{Sides}
 
--- an identifier lies in a subtree, or breaks it where it is excluded
-unfoldable pub meeting : ℕ → Bool → List ℕ → List ℕ → Bool
-meeting kind excluded? subtree name = cond excluded? ((form_of kind).reaches subtree name) ((form_of kind).inside subtree name)
+-- an identifier lies in a subtree, or breaks it where it is excluded; false where the subtree is of another form
+unfoldable pub lies_in : Form → List ℕ → GeneralName → Bool
+lies_in form name subtree = if_some (form.text subtree) (λ text. form.inside text name)
 
--- the same of the subtree whose GeneralName stands from `at` to `end`; false where it is of another form
-unfoldable pub meets_at : ℕ → Bool → List ℕ → ℕ → ℕ → List ℕ → Bool
-meets_at kind excluded? s at end name =
-    if_some (then (whole_at s at end) (form_of kind).text) (λ subtree. meeting kind excluded? subtree name)
-
--- of any of these subtrees
-unfoldable pub meets_any : ℕ → Bool → List (List ℕ) → List ℕ → Bool
-meets_any kind excluded? subtrees name = any (λ subtree. meeting kind excluded? subtree name) subtrees
+unfoldable pub reaches : Form → List ℕ → GeneralName → Bool
+reaches form name subtree = if_some (form.text subtree) (λ text. form.reaches text name)
 
 -- the texts of the names of the form among some names
 unfoldable pub texts_of : Form → List GeneralName → List (List ℕ)
@@ -61,11 +51,9 @@ pub record SideRun (s : List ℕ) (start end : ℕ) : Type 0 where
 abbrev pub nowhere : Part
 nowhere = record { start = 0; end = 0 }
 
-abbrev pub part_of : Element → Part
-part_of (Found t start next) = record { start = start; end = next }
-part_of Truncated = nowhere
-part_of BadLength = nowhere
-part_of BadTag = nowhere
+abbrev pub part_of : Answer → Part
+part_of (Ok e) = record { start = e.start; end = e.next }
+part_of (Err why) = nowhere
 
 unfoldable pub content_at : List ℕ → ℕ → ℕ → Part
 content_at s at end = part_of (element_at s at end)

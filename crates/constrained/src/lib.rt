@@ -1,31 +1,231 @@
 // The constraints of all issuers: which entry of a SAN breaks which string first. All strings have been validated, and nothing is judged
-// twice: a name and its form are told by their first bytes. One walk serves SRVNames and dNSNames; the form is a parameter, by its kind
-// in the listing: 9 or 2.
+// twice: a name and its form are told by their first bytes. One walk serves SRVNames and dNSNames; the form is a parameter.
 #![tactic(auto)]
 
-ghost use Rattle.std.specs.Prelude.{ℕ, ◌+◌, ◌≤◌, ◌≡◌, true, ◌||◌, map, length};
-ghost use Rattle.rules.specs.Bytes.{all, before};
-ghost use Rattle.rules.specs.Names.{is, dot};
-ghost use Rattle.rules.specs.Matching.{first_broken, first_breach};
+ghost use Rattle.std.specs.Prelude.{ℕ, ◌+◌, ◌-◌, ◌≤◌, ◌≡◌, true, false, not, ◌||◌, map, length, IfSome, MatchOption};
+ghost use Rattle.std.specs.Iterator.{at_most, YieldsFirstBy};
+ghost use Rattle.std.proofs.Math.Option.{none, some};
+ghost use Rattle.std.proofs.Math.Dec.{ltb};
+ghost use Rattle.rules.specs.Bytes.{all};
+ghost use Rattle.rules.specs.Matching.{breaks_as, breaks, first_broken, first_breach, subtrees_of};
 ghost use Rattle.rules.specs.Matching as rules;
-ghost use Rattle.rules.specs.declared.Breach.{Breach};
+ghost use Rattle.rules.specs.Constraints.{permitted, excluded};
 ghost use Rattle.reading.specs.Reader.{is_some};
 ghost use Rattle.reading.specs.Strings.{read_name, read_san, read_subtree, read_constraints};
-ghost use Rattle.der.specs.Runs.{items_in, Run, validated, names_of};
+ghost use Rattle.der.specs.Runs.{Run, validated, names_of};
 ghost use Rattle.entries.specs.Entries.{form_of, whole_at};
+ghost use Rattle.entries.specs.declared.NameForm.TheVariants.{Srv, Dns};
 ghost use Rattle.issuers.specs.Strings.{strings_in};
-ghost use Rattle.constrained.specs.Subtrees.{meeting, meets_at, meets_any, texts_in, Narrowed, SideRun, content_at, BothSides, FormSides, restricting};
-ghost use Rattle.constrained.specs.Breaches.{first_of, breach_of, breaks_as_at, breaks_at};
+ghost use Rattle.constrained.specs.Facts.{run_prop, form_sides_prop};
+ghost use Rattle.constrained.specs.Subtrees.{texts_of, lies_in, reaches, Narrowed, SideRun, content_at, BothSides, FormSides, restricting};
+ghost use Rattle.constrained.specs.Breaches.{first_of, breach_of};
 
-use der::{Element, content_start, element_end, read_element};
-use entries::name_text;
+use der::{content_start, element_end, read_element};
+use entries::{NameForm, name_text};
+use octets::Dotted;
 use rules::Breach;
+
+// A name that has been validated: the part of a string that it fills.
+#[derive(Clone, Copy)]
+struct ValidName<'a> {
+    bytes: &'a [u8],
+    start: usize,
+    end: usize,
+    ghost room: { start + 2 ≤ end },
+    ghost fits: { end ≤ length bytes.now },
+    ghost whole: { is_some (whole_at bytes.now start end) ≡ true },
+}
+
+impl<'a> ValidName<'a> {
+    ghost use Rattle.constrained.specs.Walks.{name_in};
+
+    // Its text, if it is of the form.
+    #[tactic(auto, using(crate::proofs::Walks::texts))]
+    fn text(&self, form: NameForm) -> Option<&'a [u8]>
+        ensures { MatchOption result ((form_of form).text (name_in self.now) ≡ none) (λ text. (form_of form).text (name_in self.now) ≡ some text.now) }
+    {
+        let start = name_text(self.bytes, self.start, self.end, form)?;
+        Some(&self.bytes[start..self.end])
+    }
+}
+
+// The entries of a SAN that are left.
+#[derive(Clone, Copy)]
+struct Entries<'a> {
+    bytes: &'a [u8],
+    at: usize,
+    end: usize,
+    ghost run: { Run read_name bytes.now at end } by { run_prop read_name bytes.now at end },
+}
+
+impl<'a> Entries<'a> {
+    ghost use Rattle.constrained.specs.Walks.{entries_left};
+
+    // All of them; none, where the SAN is absent.
+    fn new(san: &'a [u8]) -> Self
+        requires { validated read_san san.now ≡ true }
+        ensures value { entries_left result ≡ names_of read_san san.entry.now }
+        ensures bound { result.end ≤ length san.entry.now }
+    {
+        let at = match read_element(san, 0, san.len()) {
+            Ok(whole) => whole.start,
+            Err(_) => 0,
+        };
+        Entries {
+            bytes: san,
+            at,
+            end: san.len(),
+        }
+    }
+}
+
+impl<'a> Iterator for Entries<'a> {
+    ghost use Rattle.constrained.specs.Walks.{name_in, entries_left};
+
+    type Item = ValidName<'a>;
+
+    ghost next_gives = { YieldsFirstBy name_in entries_left };
+
+    ghost remaining = { λ s. at_most (s.end - s.at) };
+
+    #[tactic(auto, using(entries::proofs::Steps::steps, entries::proofs::Steps::names, crate::proofs::Walks::entry_steps))]
+    fn next(&mut self) -> Option<ValidName<'a>> {
+        if self.end <= self.at {
+            return None;
+        }
+        let start = self.at;
+        self.at = element_end(self.bytes, start, self.end);
+        Some(ValidName {
+            bytes: self.bytes,
+            start,
+            end: self.at,
+        })
+    }
+}
+
+// The subtrees of a part of the constraints that are left.
+#[derive(Clone, Copy)]
+struct Subtrees<'a> {
+    bytes: &'a [u8],
+    at: usize,
+    end: usize,
+    ghost run: { Run read_subtree bytes.now at end } by { run_prop read_subtree bytes.now at end },
+}
+
+impl<'a> Iterator for Subtrees<'a> {
+    ghost use Rattle.constrained.specs.Walks.{SubtreeGives};
+
+    type Item = ValidName<'a>;
+
+    ghost next_gives = { SubtreeGives };
+
+    ghost remaining = { λ s. at_most (s.end - s.at) };
+
+    #[tactic(auto, using(entries::proofs::Steps::steps, entries::proofs::Steps::names, crate::proofs::Walks::subtree_steps))]
+    fn next(&mut self) -> Option<ValidName<'a>> {
+        if self.end <= self.at {
+            return None;
+        }
+        let start = content_start(self.bytes, self.at, self.end);
+        self.at = element_end(self.bytes, self.at, self.end);
+        Some(ValidName {
+            bytes: self.bytes,
+            start,
+            end: self.at,
+        })
+    }
+}
+
+impl<'a> Subtrees<'a> {
+    // Where the first subtree of the form stands; where the last one ends, if there is none.
+    #[tactic(auto, using(crate::proofs::Parts::narrowing))]
+    fn first_of_form(self, form: NameForm) -> usize
+        ensures { Narrowed (form_of form) self.entry.bytes.now self.entry.at self.entry.end result }
+    {
+        let mut rest = self;
+        let mut at = rest.at;
+        while let Some(subtree) = rest.next() {
+            if subtree.text(form).is_some() {
+                return at;
+            }
+            at = rest.at;
+        }
+        at
+    }
+}
+
+// An identifier of a form.
+#[derive(Clone, Copy)]
+struct Identifier<'a> {
+    form: NameForm,
+    name: Dotted<'a>,
+    ghost is_one: { (form_of form).id name.text.now ≡ true },
+}
+
+impl<'a> Identifier<'a> {
+    ghost use Rattle.constrained.specs.Walks.{name_in};
+
+    // The text as one, if it is one.
+    fn new(form: NameForm, text: &'a [u8]) -> Option<Self>
+        ensures { MatchOption result ((form_of form).id text.entry.now ≡ false) (λ id. (id.form ≡ form) × (id.name.text.now ≡ text.entry.now)) }
+    {
+        let is_one = match form {
+            NameForm::Srv => srv::srv_id(text),
+            NameForm::Dns => dns::dns_id(text),
+        };
+        if !is_one {
+            return None;
+        }
+        Some(Identifier {
+            form,
+            name: Dotted::new(text),
+        })
+    }
+
+    // Whether it lies in a subtree; in one of another form it does not.
+    #[tactic(auto, using(crate::proofs::Meeting::lies))]
+    fn lies_in(&self, subtree: &ValidName<'_>) -> bool
+        ensures { result ≡ lies_in (form_of self.now.form) self.now.name.text.now (name_in subtree.now) }
+    {
+        let Some(text) = subtree.text(self.form) else {
+            return false;
+        };
+        match self.form {
+            NameForm::Srv => srv::in_subtree(text, self.name),
+            NameForm::Dns => dns::dns_within(text, self.name.text),
+        }
+    }
+
+    // Whether it breaks a subtree that is excluded.
+    #[tactic(auto, using(crate::proofs::Meeting::reaching))]
+    fn reaches(&self, subtree: &ValidName<'_>) -> bool
+        ensures { result ≡ reaches (form_of self.now.form) self.now.name.text.now (name_in subtree.now) }
+    {
+        let Some(text) = subtree.text(self.form) else {
+            return false;
+        };
+        match self.form {
+            NameForm::Srv => srv::in_subtree(text, self.name),
+            NameForm::Dns => dns::dns_reaches(text, self.name.text),
+        }
+    }
+}
 
 // The subtrees of one side, from the content of its first element to where the last one ends.
 #[derive(Clone, Copy)]
 struct Part {
     start: usize,
     end: usize,
+}
+
+impl Part {
+    const EMPTY: Part = Part { start: 0, end: 0 };
+
+    fn is_empty(&self) -> bool
+        ensures { result ≡ not (ltb self.now.start self.now.end) }
+    {
+        self.end <= self.start
+    }
 }
 
 // The permitted subtrees and the excluded ones.
@@ -35,395 +235,238 @@ struct Sides {
     excluded: Part,
 }
 
-// The index of the first entry that breaks a string, if one does.
-#[derive(Clone, Copy)]
-pub enum First {
-    At(usize),
-    Nothing,
-}
+impl Sides {
+    const NONE: Sides = Sides {
+        permitted: Part::EMPTY,
+        excluded: Part::EMPTY,
+    };
 
-// The first breach of all strings, if there is one.
-#[derive(Clone, Copy)]
-pub enum Breached {
-    At(Breach),
-    Nothing,
-}
-
-// Whether a text is an identifier of the form.
-fn is_id(kind: usize, text: &[u8]) -> bool
-    ensures { result ≡ (form_of kind).id text.now }
-{
-    if kind == 9 {
-        return srv::srv_id(text);
+    // Whether there is any subtree.
+    #[tactic(auto, using(crate::proofs::Permission::any_sides))]
+    fn any(&self) -> bool
+        ensures { result ≡ restricting self.now }
+    {
+        !self.permitted.is_empty() || !self.excluded.is_empty()
     }
-    dns::dns_id(text)
-}
-
-// Whether an identifier lies in a subtree, or breaks it where it is excluded. Its first dot stands at `first`.
-fn meets(kind: usize, excluded: bool, subtree: &[u8], name: &[u8], first: usize) -> bool
-    requires name_value { (form_of kind).id name.now ≡ true }
-    requires first_value { (first ≡ length (before (is dot) name.now)) × (first ≤ length name.now) }
-    ensures { result ≡ meeting kind excluded subtree.now name.now }
-{
-    if kind == 9 {
-        return srv::in_subtree(subtree, name, first);
-    }
-    if excluded {
-        return dns::dns_reaches(subtree, name);
-    }
-    dns::dns_within(subtree, name)
-}
-
-// The same of the subtree whose GeneralName stands from `at` to `end`; false where it is of another form.
-fn subtree_meets(
-    s: &[u8],
-    at: usize,
-    end: usize,
-    kind: usize,
-    excluded: bool,
-    name: &[u8],
-    first: usize,
-) -> bool
-    requires at_bound { at + 2 ≤ end }
-    requires end_in_bounds { end ≤ length s.now }
-    requires end_value { is_some (whole_at s.now at end) ≡ true }
-    requires name_value { (form_of kind).id name.now ≡ true }
-    requires first_value { (first ≡ length (before (is dot) name.now)) × (first ≤ length name.now) }
-    ensures { result ≡ meets_at kind excluded s.now at end name.now }
-{
-    let text = name_text(s, at, end, kind);
-    if end < text {
-        return false;
-    }
-    meets(kind, excluded, &s[text..end], name, first)
-}
-
-// Whether an identifier meets a subtree of a part: left at the first that it meets.
-fn meets_any(
-    s: &[u8],
-    start: usize,
-    end: usize,
-    kind: usize,
-    excluded: bool,
-    name: &[u8],
-    first: usize,
-) -> bool
-    requires run { Run read_subtree s.now start end }
-    requires name_value { (form_of kind).id name.now ≡ true }
-    requires first_value { (first ≡ length (before (is dot) name.now)) × (first ≤ length name.now) }
-    ensures { result ≡ meets_any kind excluded (texts_in (form_of kind) s.now start end) name.now }
-{
-    let mut at = start;
-    while at < end {
-        let next = element_end(s, at, end);
-        let from = content_start(s, at, end);
-        let met = subtree_meets(s, from, next, kind, excluded, name, first);
-        if met {
-            return true;
-        }
-        at = next;
-    }
-    false
-}
-
-// The same of a side.
-fn meets_side(s: &[u8], side: Part, kind: usize, excluded: bool, name: &[u8], first: usize) -> bool
-    requires run { Run read_subtree s.now side.start side.end }
-    requires name_value { (form_of kind).id name.now ≡ true }
-    requires first_value { (first ≡ length (before (is dot) name.now)) × (first ≤ length name.now) }
-    ensures { result ≡ meets_any kind excluded (texts_in (form_of kind) s.now side.start side.end) name.now }
-{
-    meets_any(s, side.start, side.end, kind, excluded, name, first)
-}
-
-// Where the first subtree of the form stands in a part; where the part ends, if it has none.
-fn narrow(s: &[u8], start: usize, end: usize, kind: usize) -> usize
-    requires { Run read_subtree s.now start end }
-    ensures { Narrowed (form_of kind) s.now start end result }
-{
-    let mut at = start;
-    while at < end {
-        let next = element_end(s, at, end);
-        let from = content_start(s, at, end);
-        let text = name_text(s, from, next, kind);
-        if text <= next {
-            return at;
-        }
-        at = next;
-    }
-    at
 }
 
 // The content of the element at a place; nothing, where no element is.
+#[tactic(auto, using(crate::proofs::Groups::contents))]
 fn content_at(s: &[u8], at: usize, end: usize) -> Part
     requires at_le_end { at ≤ end }
     requires end_in_bounds { end ≤ length s.now }
     ensures { result ≡ content_at s.now at end }
 {
-    let e = read_element(s, at, end);
-    let Element::Found {
-        tag: _,
-        start,
-        next,
-    } = e
-    else {
-        return Part { start: 0, end: 0 };
-    };
-    Part {
-        start: start,
-        end: next,
+    match read_element(s, at, end) {
+        Ok(element) => Part {
+            start: element.start,
+            end: element.next,
+        },
+        Err(_) => Part::EMPTY,
     }
 }
 
 // The sides that stand from `start` to `end`: "A0 (permitted), A1 (excluded), or both in that order".
+#[tactic(auto, using(crate::proofs::Groups::sides))]
 fn sides_from(s: &[u8], start: usize, end: usize) -> Sides
     requires { SideRun s.now start end }
     ensures { BothSides s.now result }
 {
-    let nothing = Part { start: 0, end: 0 };
-    let e = read_element(s, start, end);
-    let Element::Found {
-        tag,
-        start: from,
-        next,
-    } = e
-    else {
-        return Sides {
-            permitted: nothing,
-            excluded: nothing,
-        };
+    let Ok(element) = read_element(s, start, end) else {
+        return Sides::NONE;
     };
     let first = Part {
-        start: from,
-        end: next,
+        start: element.start,
+        end: element.next,
     };
-    if tag == 0xA1 {
+    if element.tag == 0xA1 {
         return Sides {
-            permitted: nothing,
+            permitted: Part::EMPTY,
             excluded: first,
         };
     }
-    let second = content_at(s, next, end);
     Sides {
         permitted: first,
-        excluded: second,
+        excluded: content_at(s, element.next, end),
     }
 }
 
 // Where the subtrees of each side stand in a string.
+#[tactic(auto, using(crate::proofs::Groups::whole))]
 fn both_sides(s: &[u8]) -> Sides
     requires { validated read_constraints s.now ≡ true }
     ensures { BothSides s.now result }
 {
-    let end = s.len();
-    let e = read_element(s, 0, end);
-    let Element::Found {
-        tag: _,
-        start,
-        next: _,
-    } = e
-    else {
-        let nothing = Part { start: 0, end: 0 };
-        return Sides {
-            permitted: nothing,
-            excluded: nothing,
+    match read_element(s, 0, s.len()) {
+        Ok(whole) => sides_from(s, whole.start, s.len()),
+        Err(_) => Sides::NONE,
+    }
+}
+
+// What a string holds of one form: its sides, each from its first subtree of the form on, and empty where it has none.
+#[derive(Clone, Copy)]
+struct FormSubtrees<'a> {
+    form: NameForm,
+    constraints: &'a [u8],
+    sides: Sides,
+    ghost of_form: { FormSides (form_of form) constraints.now sides } by { form_sides_prop (form_of form) constraints.now sides },
+}
+
+impl<'a> FormSubtrees<'a> {
+    ghost use Rattle.constrained.specs.Walks.{name_in, subtrees_left};
+
+    fn new(form: NameForm, constraints: &'a [u8], sides: Sides) -> Self
+        requires { BothSides constraints.now sides }
+        ensures form { result.form ≡ form }
+        ensures constraints { result.constraints.now ≡ constraints.entry.now }
+    {
+        let permitted = Subtrees {
+            bytes: constraints,
+            at: sides.permitted.start,
+            end: sides.permitted.end,
         };
-    };
-    sides_from(s, start, end)
-}
-
-// The sides, each from its first subtree of the form on, and empty where it has none.
-fn form_sides(s: &[u8], sides: Sides, kind: usize) -> Sides
-    requires { BothSides s.now sides }
-    ensures { FormSides (form_of kind) s.now result }
-{
-    let permitted = sides.permitted;
-    let excluded = sides.excluded;
-    let from = narrow(s, permitted.start, permitted.end, kind);
-    let since = narrow(s, excluded.start, excluded.end, kind);
-    let inside = Part {
-        start: from,
-        end: permitted.end,
-    };
-    let outside = Part {
-        start: since,
-        end: excluded.end,
-    };
-    Sides {
-        permitted: inside,
-        excluded: outside,
+        let excluded = Subtrees {
+            bytes: constraints,
+            at: sides.excluded.start,
+            end: sides.excluded.end,
+        };
+        FormSubtrees {
+            form,
+            constraints,
+            sides: Sides {
+                permitted: Part {
+                    start: permitted.first_of_form(form),
+                    end: permitted.end,
+                },
+                excluded: Part {
+                    start: excluded.first_of_form(form),
+                    end: excluded.end,
+                },
+            },
+        }
     }
-}
 
-// Whether there is any subtree of the form.
-fn restricts(sides: Sides) -> bool
-    ensures { result ≡ restricting sides }
-{
-    let permitted = sides.permitted;
-    if permitted.start < permitted.end {
-        return true;
+    #[tactic(auto, using(crate::proofs::Permission::permitted_texts))]
+    fn permitted(&self) -> Subtrees<'a>
+        ensures { texts_of (form_of self.now.form) (subtrees_left result) ≡ subtrees_of (form_of self.now.form) permitted (names_of read_constraints self.now.constraints.now) }
+    {
+        Subtrees {
+            bytes: self.constraints,
+            at: self.sides.permitted.start,
+            end: self.sides.permitted.end,
+        }
     }
-    let excluded = sides.excluded;
-    excluded.start < excluded.end
-}
 
-// Whether there is any subtree of either form.
-fn restricts_any(srv: Sides, dns: Sides) -> bool
-    ensures { result ≡ restricting srv || restricting dns }
-{
-    let any = restricts(srv);
-    if any {
-        return true;
+    #[tactic(auto, using(crate::proofs::Permission::excluded_texts))]
+    fn excluded(&self) -> Subtrees<'a>
+        ensures { texts_of (form_of self.now.form) (subtrees_left result) ≡ subtrees_of (form_of self.now.form) excluded (names_of read_constraints self.now.constraints.now) }
+    {
+        Subtrees {
+            bytes: self.constraints,
+            at: self.sides.excluded.start,
+            end: self.sides.excluded.end,
+        }
     }
-    restricts(dns)
-}
 
-// "each presented SRVName must be an SRV-ID, lie in no excluded SRVName subtree, and, if any permitted SRVName subtree exists,
-// lie in one"; of dNSNames the same.
-fn allowed(constraints: &[u8], sides: Sides, kind: usize, text: &[u8]) -> bool
-    requires form_sides { FormSides (form_of kind) constraints.now sides }
-    requires sides_value { restricting sides ≡ true }
-    ensures { result ≡ rules.allowed (form_of kind) (names_of read_constraints constraints.now) text.now }
-{
-    let id = is_id(kind, text);
-    if id {
-        let first = octets::find(text, 0x2E);
-        let excluded = sides.excluded;
-        let outside = meets_side(constraints, excluded, kind, true, text, first);
-        if outside {
+    // "each presented SRVName must be an SRV-ID, lie in no excluded SRVName subtree, and, if any permitted SRVName subtree exists,
+    // lie in one"; of dNSNames the same.
+    fn allows(&self, text: &[u8]) -> bool
+        requires { restricting self.now.sides ≡ true }
+        ensures { result ≡ rules.allowed (form_of self.now.form) (names_of read_constraints self.now.constraints.now) text.now }
+    {
+        let Some(id) = Identifier::new(self.form, text) else {
+            return false;
+        };
+        if self.excluded().any(|subtree| id.reaches(&subtree)) {
             return false;
         }
-        let permitted = sides.permitted;
-        if permitted.start < permitted.end {
-            return meets_side(constraints, permitted, kind, false, text, first);
+        self.sides.permitted.is_empty() || self.permitted().any(|subtree| id.lies_in(&subtree))
+    }
+
+    // Whether an entry of the SAN is a name of the form that breaks the string.
+    #[tactic(auto, using(crate::proofs::Permission::breaking))]
+    fn broken_by(&self, entry: &ValidName<'_>) -> bool
+        ensures { result ≡ breaks_as (form_of self.now.form) (names_of read_constraints self.now.constraints.now) (name_in entry.now) }
+    {
+        self.sides.any()
+            && match entry.text(self.form) {
+                Some(text) => !self.allows(text),
+                None => false,
+            }
+    }
+}
+
+// What a string holds of each form.
+#[derive(Clone, Copy)]
+struct Restrictions<'a> {
+    srv: FormSubtrees<'a>,
+    dns: FormSubtrees<'a>,
+    ghost of_srv: { srv.form ≡ Srv },
+    ghost of_dns: { dns.form ≡ Dns },
+    ghost of_one: { dns.constraints.now ≡ srv.constraints.now },
+}
+
+impl<'a> Restrictions<'a> {
+    ghost use Rattle.constrained.specs.Walks.{name_in};
+
+    fn new(constraints: &'a [u8]) -> Self
+        requires { validated read_constraints constraints.now ≡ true }
+        ensures { result.srv.constraints.now ≡ constraints.entry.now }
+    {
+        let sides = both_sides(constraints);
+        Restrictions {
+            srv: FormSubtrees::new(NameForm::Srv, constraints, sides),
+            dns: FormSubtrees::new(NameForm::Dns, constraints, sides),
         }
-        return true;
     }
-    false
-}
 
-// Whether the entry of the SAN from `at` to `end` is a name of the form that breaks the string.
-fn breaks_as(
-    san: &[u8],
-    at: usize,
-    end: usize,
-    constraints: &[u8],
-    sides: Sides,
-    kind: usize,
-) -> bool
-    requires at_bound { at + 2 ≤ end }
-    requires end_in_bounds { end ≤ length san.now }
-    requires end_value { is_some (whole_at san.now at end) ≡ true }
-    requires form_sides { FormSides (form_of kind) constraints.now sides }
-    ensures { result ≡ breaks_as_at (form_of kind) (names_of read_constraints constraints.now) san.now at end }
-{
-    let any = restricts(sides);
-    if !any {
-        return false;
+    // Whether there is any subtree of either form.
+    fn any(&self) -> bool
+        ensures { result ≡ restricting self.now.srv.sides || restricting self.now.dns.sides }
+    {
+        self.srv.sides.any() || self.dns.sides.any()
     }
-    let text = name_text(san, at, end, kind);
-    if end < text {
-        return false;
-    }
-    let fine = allowed(constraints, sides, kind, &san[text..end]);
-    !fine
-}
 
-// Whether that entry breaks the string.
-fn breaks(san: &[u8], at: usize, end: usize, constraints: &[u8], srv: Sides, dns: Sides) -> bool
-    requires at_bound { at + 2 ≤ end }
-    requires end_in_bounds { end ≤ length san.now }
-    requires end_value { is_some (whole_at san.now at end) ≡ true }
-    requires form_sides { FormSides (form_of 9) constraints.now srv }
-    requires form_sides_2 { FormSides (form_of 2) constraints.now dns }
-    ensures { result ≡ breaks_at (names_of read_constraints constraints.now) san.now at end }
-{
-    let broken = breaks_as(san, at, end, constraints, srv, 9);
-    if broken {
-        return true;
+    // Whether an entry of the SAN breaks the string.
+    #[tactic(auto, using(crate::proofs::Entry::either))]
+    fn broken_by(&self, entry: &ValidName<'_>) -> bool
+        ensures { result ≡ breaks (names_of read_constraints self.now.srv.constraints.now) (name_in entry.now) }
+    {
+        self.srv.broken_by(entry) || self.dns.broken_by(entry)
     }
-    breaks_as(san, at, end, constraints, dns, 2)
-}
-
-// The first of the entries from `start` to `end` that breaks the string.
-fn first_in(
-    san: &[u8],
-    start: usize,
-    end: usize,
-    constraints: &[u8],
-    srv: Sides,
-    dns: Sides,
-) -> First
-    requires run { Run read_name san.now start end }
-    requires form_sides { FormSides (form_of 9) constraints.now srv }
-    requires form_sides_2 { FormSides (form_of 2) constraints.now dns }
-    ensures value { result ≡ first_of (first_broken 0 (names_of read_constraints constraints.now) (items_in read_name san.now start end)) }
-    ensures by_index { (i : ℕ) → result ≡ First.At i → i ≤ length san.now }
-{
-    let mut at = start;
-    let mut i = 0;
-    while at < end {
-        let next = element_end(san, at, end);
-        let broken = breaks(san, at, next, constraints, srv, dns);
-        if broken {
-            return First::At(i);
-        }
-        at = next;
-        i += 1;
-    }
-    First::Nothing
 }
 
 // The index of the first entry of a SAN that breaks one string; the index counts all entries from 0. Where the string holds no subtree of
 // either form, the SAN is not looked at.
-fn first_broken(san: &[u8], constraints: &[u8]) -> First
+fn first_broken(san: &[u8], constraints: &[u8]) -> Option<usize>
     requires san_value { validated read_san san.now ≡ true }
     requires constraints_value { validated read_constraints constraints.now ≡ true }
     ensures value { result ≡ first_of (first_broken 0 (names_of read_constraints constraints.now) (names_of read_san san.now)) }
-    ensures by_index { (i : ℕ) → result ≡ First.At i → i ≤ length san.now }
+    ensures bound { IfSome result (λ i. i ≤ length san.now) }
 {
-    let sides = both_sides(constraints);
-    let srv = form_sides(constraints, sides, 9);
-    let dns = form_sides(constraints, sides, 2);
-    let any = restricts_any(srv, dns);
-    if !any {
-        return First::Nothing;
+    let restrictions = Restrictions::new(constraints);
+    if !restrictions.any() {
+        return None;
     }
-    let end = san.len();
-    let e = read_element(san, 0, end);
-    let Element::Found {
-        tag: _,
-        start,
-        next: _,
-    } = e
-    else {
-        return First::Nothing;
-    };
-    first_in(san, start, end, constraints, srv, dns)
+    Entries::new(san).position(|entry| restrictions.broken_by(&entry))
 }
 
 // "All of them must hold"; "lowest issuer first, then lowest name".
-pub fn first_breach(san: &[u8], constraints: &[u8], lengths: &[usize]) -> Breached
+#[tactic(auto, using(crate::proofs::Strings::laws))]
+pub fn first_breach(san: &[u8], constraints: &[u8], lengths: &[usize]) -> Option<Breach>
     requires san_value { validated read_san san.now ≡ true }
     requires constraints_value { all (validated read_constraints) (strings_in lengths.now constraints.now) ≡ true }
     ensures value { result ≡ breach_of (first_breach 0 (map (names_of read_constraints) (strings_in lengths.now constraints.now)) (names_of read_san san.now)) }
-    ensures issuer_bound { (b : Breach) → result ≡ Breached.At b → (b.issuer ≤ 8) × (b.presented ≤ length san.now) }
+    ensures bounds { IfSome result (λ b. (b.issuer ≤ 8) × (b.presented ≤ length san.now)) }
 {
-    let fit = issuers::lengths_fit(lengths, constraints.len());
-    if !fit {
-        return Breached::Nothing;
+    if !issuers::lengths_fit(lengths, constraints.len()) {
+        return None;
     }
-    let mut k = 0;
-    while k < lengths.len() {
-        let s = issuers::string_of(lengths, constraints, k);
-        let f = first_broken(san, s);
-        if let First::At(i) = f {
-            return Breached::At(Breach {
-                issuer: k,
-                presented: i,
-            });
+    for issuer in 0..lengths.len() {
+        let string = issuers::string_of(lengths, constraints, issuer);
+        if let Some(presented) = first_broken(san, string) {
+            return Some(Breach { issuer, presented });
         }
-        k += 1;
     }
-    Breached::Nothing
+    None
 }

@@ -2,14 +2,13 @@
 use Prim.Native.Nat.{ℕ, ◌+◌, ◌-◌, ◌<◌, ◌≤◌}
 use mathlib.Core.Path.{◌≡◌, sym, ap, ◌∙◌}
 use mathlib.Core.List.{List, [], ◌∷◌}
-use mathlib.Core.Bool.{Bool, true, false, not, false≢true}
+use mathlib.Core.Bool.{Bool, true, false, false≢true}
 use native.Mathlib.Omega.{arith}
-use lib.ListN.{length, take, drop, length-drop}
-use borrow.Author.Tests.{le-leb, ltb-true, not-true, not-false}
+use lib.ListN.{length, drop, length-drop}
+use borrow.Author.Tests.{le-leb, ltb-true}
 use Rattle.octets.proofs.Cases.{by_cases, and_left, and_right, fails}
 use Rattle.octets.proofs.Compare.{text_length_lem}
 use Rattle.octets.proofs.Place.{part_after, one_passes}
-use Rattle.octets.proofs.Parts.{rest_is}
 use Rattle.octets.proofs.Cut as cut
 use Rattle.names.proofs.Labels.{two_labels_lem}
 use Rattle.names.proofs.Folded.{same_domains}
@@ -17,7 +16,7 @@ use Rattle.rules.proofs.Labels.{domain_short, domain_first, domain_past}
 use Rattle.rules.specs.Bytes.{any, before, after}
 use Rattle.rules.specs.Names.{is, dot, label, ldh, domain, same_text, dns_matches}
 use Rattle.dns.specs.Wildcard.{wild_domain, past_first, wild_matches}
-use Rattle.dns.proofs.Matching.{wild, wild_matches_lem, plain_matches}
+use Rattle.dns.proofs.Matching.{wild, plain_matches}
 
 module _ (text t : List ℕ) where
   -- a text that is one label and then t has its first dot as many bytes before its end as t has, and one more
@@ -67,21 +66,16 @@ module _ (reference : List ℕ) (good : domain reference ≡ true) where
       past_same =
           rw (one_passes (is dot) reference first is_first (omega arith), ← part_after (is dot) reference first is_first, ← is_past) (sym is_same)
 
-      pub known_other : not same ≡ true → false ≡ wild_matches reference t
+      pub known_other : same ≡ false → false ≡ wild_matches reference t
       unfolding wild_matches
-      known_other e = rw (past_same, not-true same e)
+      known_other e = rw (past_same, e)
 
-      pub known_same : not same ≡ false → (r : Bool) → r ≡ any (is dot) t → r ≡ wild_matches reference t
+      pub known_same : same ≡ true → (r : Bool) → r ≡ any (is dot) t → r ≡ wild_matches reference t
       unfolding wild_matches
       known_same e r f =
-          let p = past_same ∙ not-false same e in
+          let p = past_same ∙ e in
           f ∙ sym (past_wild t p) ∙ rw p
 
-  module _ (text : List ℕ) (w : Bool) (is_wild : w ≡ wild text) where
-    pub known_wild : w ≡ true → (r : Bool) → r ≡ wild_matches reference (take (length text - 2) (drop 2 text)) → r ≡ dns_matches reference text
-    known_wild e r f = (rw (rest_is text 2) at f) ∙ sym (wild_matches_lem reference text (sym is_wild ∙ e))
-
-    pub known_plain : w ≡ false → (r : Bool) → r ≡ same_text text reference → r ≡ dns_matches reference text
-    known_plain e r f =
-        f ∙ sym (plain_matches reference text (sym is_wild ∙ e)
-        ∙ by_cases (same_text text reference) (λ s. rw (s, same_domains text reference s, good)) (λ s. rw s))
+  pub known_plain : (text : List ℕ) → wild text ≡ false → dns_matches reference text ≡ same_text text reference
+  known_plain text e =
+      plain_matches reference text e ∙ by_cases (same_text text reference) (λ s. rw (s, same_domains text reference s, good)) (λ s. rw s)

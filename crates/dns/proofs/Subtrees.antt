@@ -1,12 +1,11 @@
 -- dNSName subtrees, by the tests that the code makes.
-use Prim.Native.Nat.{ℕ, ◌-◌}
+use Prim.Native.Nat.{ℕ}
 use mathlib.Core.Path.{◌≡◌, refl, sym, ap, ◌∙◌}
 use mathlib.Core.List.{List, [], ◌∷◌}
-use mathlib.Core.Bool.{Bool, true, false, and-false}
+use mathlib.Core.Bool.{Bool, true, false, ◌||◌, and-false, or-false}
 use native.Mathlib.Omega.{arith}
-use lib.ListN.{length, take, drop}
+use lib.ListN.{length, drop}
 use Rattle.octets.proofs.Cases.{by_cases}
-use Rattle.octets.proofs.Parts.{rest_is}
 use Rattle.names.proofs.Labels.{others, labels_are, same_domain_lem}
 use Rattle.rules.proofs.SameLabels.{last_none}
 use Rattle.rules.specs.Bytes.{any, after}
@@ -45,22 +44,14 @@ one_label t subtree =
     rw (labels_are subtree)
     (by_cases (any (is dot) subtree) (λ e. rw e (same_domain_lem t (after (is dot) subtree))) (λ e. rw (e, labels_are t)))
 
-module _ (subtree name : List ℕ) (inside : Bool) (is_inside : inside ≡ dns_within subtree name) where
-  pub reaches_inside : inside ≡ true → true ≡ dns_reaches subtree name
-  unfolding dns_reaches
-  reaches_inside e = rw (← is_inside, e)
+-- an identifier that lies in no subtree reaches one if it is a wildcard
+module _ (subtree name : List ℕ) where
+  pub reaches_wild : dns_id name ≡ true → wild name ≡ true → dns_reaches subtree name ≡ dns_within subtree name || past_first subtree (drop 2 name)
+  unfolding dns_reaches dns_id
+  reaches_wild i e =
+      let w : wildcard name ≡ true = rw (ap domain (wild_is name e) ∙ star_first (dot ∷ drop 2 name)) at i in
+      rw (w, one_label)
 
-  module _ (w : Bool) (is_wild : w ≡ wild name) where
-    -- a DNS-ID that begins with `*.` is a wildcard
-    is_wildcard : dns_id name ≡ true → w ≡ true → wildcard name ≡ true
-    unfolding dns_id
-    is_wildcard i e = rw (ap domain (wild_is name (sym is_wild ∙ e)) ∙ star_first (dot ∷ drop 2 name)) at i
-
-    pub reaches_wild : dns_id name ≡ true → inside ≡ false → w ≡ true → (r : Bool) → r ≡ past_first subtree (take (length name - 2) (drop 2 name))
-        → r ≡ dns_reaches subtree name
-    unfolding dns_reaches
-    reaches_wild i f e r g = (rw (rest_is name 2) at g) ∙ rw (← is_inside, f, is_wildcard i e, one_label)
-
-    pub reaches_plain : inside ≡ false → w ≡ false → false ≡ dns_reaches subtree name
-    unfolding dns_reaches wildcard
-    reaches_plain f e = rw (← is_inside, f, ← is_wild, e, and-false)
+  pub reaches_plain : wild name ≡ false → dns_reaches subtree name ≡ dns_within subtree name
+  unfolding dns_reaches wildcard
+  reaches_plain e = rw (e, and-false) (or-false (dns_within subtree name))

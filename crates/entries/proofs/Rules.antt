@@ -3,31 +3,25 @@ use Prim.Native.Nat.{ℕ, ◌-◌, ◌≤◌}
 use mathlib.Core.Path.{◌≡◌, refl, sym, ap, ◌∙◌}
 use mathlib.Core.Bool.{Bool, true, false, cond, not, ◌&&◌, ◌||◌}
 use mathlib.Core.Option.{some}
-use mathlib.Core.List.{List}
+use mathlib.Core.List.{List, [], ◌∷◌}
 use native.Mathlib.Omega.{arith}
 use lib.ListN.{length, take, drop}
 use lib.Dec.{eqb}
-use lib.Seq.{slice, slice_empty, slice-cons}
+use lib.Seq.{slice}
 use borrow.Author.Tests.{ne_eqb}
-use Rattle.rules.specs.Bytes.{same, ascii}
+use Rattle.rules.specs.Bytes.{some?, same, ascii}
 use Rattle.rules.specs.San.{GeneralName, plain, other, srv_oid, text_tag, sealed_tag, sealed, good_oid, good_value, good_srv_name, good_name, name_kind}
 use Rattle.reading.specs.Reader.{when, is_some, Raw, raw}
 use Rattle.reading.specs.Strings.{read_other, name_of, read_name}
 use Rattle.reading.specs.Answers.{then_some, is_true}
 use Rattle.reading.proofs.Codecs.{other_c}
 use Rattle.der.specs.Reads.{part_is}
-use Rattle.entries.specs.Entries.{text_tag_of, text_of, other_at, name_at, ascii_at, good_srv_at, good_name_at}
+use Rattle.entries.specs.Entries.{text_tag_of, text_of, other_at, name_at, good_name_at}
 use Rattle.entries.specs.Texts.{NamedAt, named, not_named}
 use Rattle.entries.specs.declared.Name.{Name}
 use Rattle.entries.specs.declared.Unreadable.{Unreadable}
 use Rattle.std.specs.Prelude.{Result, Ok, Err}
 use Rattle.entries.proofs.Shapes.{shape_other}
-
--- ---- every byte below 128
-
-pub ascii_of : (s : List ℕ) (start end : ℕ) (r : Bool) → start ≤ end → r ≡ ascii (take (end - start) (drop start s)) → r ≡ ascii_at s start end
-unfolding ascii_at
-ascii_of s start end r h e = e ∙ ap ascii (part_is s start end h)
 
 -- ---- tags
 
@@ -58,18 +52,27 @@ module _ (t : ℕ) where
 
 -- ---- the text of an SRVName
 
-module _ (s : List ℕ) (t text end : ℕ) (h : text ≤ end) (fits : end ≤ length s) where
-  pub srv_tag : (t ≡ 0x16 → ⊥) → false ≡ good_srv_at s t text end
-  unfolding good_srv_at good_srv_name
+module _ (t : ℕ) (text : List ℕ) where
+  pub srv_tag : (t ≡ 0x16 → ⊥) → false ≡ good_srv_name t text
+  unfolding good_srv_name
   srv_tag e = rw (ne_eqb t 0x16 e)
 
-  pub srv_empty : t ≡ 0x16 → text ≡ end → false ≡ good_srv_at s t text end
-  unfolding good_srv_at good_srv_name
-  srv_empty e f = rw (e, f, slice_empty end s)
+  module _ (e : t ≡ 0x16) where
+    pub srv_empty : length text ≡ 0 → false ≡ good_srv_name t text
+    unfolding good_srv_name
+    srv_empty f = rw e (go text f)
+      where
+        go : (l : List ℕ) → length l ≡ 0 → false ≡ (some? l && ascii l)
+        go [] f = refl
+        go (x ∷ l) f = absurd (omega arith)
 
-  pub srv_ascii : t ≡ 0x16 → (text ≡ end → ⊥) → (r : Bool) → r ≡ ascii_at s text end → r ≡ good_srv_at s t text end
-  unfolding good_srv_at good_srv_name ascii_at
-  srv_ascii e f r r_is = r_is ∙ rw (e, slice-cons text end s 0 (omega arith) fits)
+    pub srv_ascii : (length text ≡ 0 → ⊥) → ascii text ≡ good_srv_name t text
+    unfolding good_srv_name
+    srv_ascii f = rw e (go text f)
+      where
+        go : (l : List ℕ) → (length l ≡ 0 → ⊥) → ascii l ≡ (some? l && ascii l)
+        go [] f = absurd (f refl)
+        go (x ∷ l) f = refl
 
 -- ---- a GeneralName
 
@@ -107,9 +110,9 @@ module _ (s : List ℕ) (start end : ℕ) (h : start ≤ end) (fits : end ≤ le
         f p.0 p.1.tag p.1.content (d.kind_is ∙ ap name_kind w) (d.tag_is ∙ ap text_tag_of w) (sym (ap text_of w) ∙ d.text_is.text_is)
         ∙ rw (good_is (raw 0xA0 (slice start end s)) d.name d.reads, w) (rw g)
 
-    pub good_srv_is : m.kind ≡ 9 → (r : Bool) → r ≡ good_srv_at s m.tag m.text end → r ≡ good_name_at s 0xA0 start end
-    unfolding good_srv_at name_kind
-    good_srv_is e r r_is = rules r (λ o t c p q w. r_is ∙ rw (q, ← w) (go (same o srv_oid) (sym p ∙ e)))
+    pub good_srv_is : m.kind ≡ 9 → (r : Bool) → r ≡ good_srv_name m.tag (take (end - m.text) (drop m.text s)) → r ≡ good_name_at s 0xA0 start end
+    unfolding name_kind
+    good_srv_is e r r_is = rules r (λ o t c p q w. r_is ∙ rw (part_is s m.text end is_named.text_is.within, q, ← w) (go (same o srv_oid) (sym p ∙ e)))
       where
         go : {v : Bool} (b : Bool) → ◌≡◌ {A = ℕ} (cond b 9 0) 9 → v ≡ (not b || v)
         go true f = refl
@@ -123,31 +126,33 @@ module _ (s : List ℕ) (start end : ℕ) (h : start ≤ end) (fits : end ≤ le
         go v true f = absurd (f refl)
         go v false f = refl
 
-module _ (s : List ℕ) (t start end : ℕ) where
-  pub good_other_tag : t ≡ 0xA0 → (r : Bool) → r ≡ good_name_at s 0xA0 start end → r ≡ good_name_at s t start end
-  good_other_tag e r r_is = r_is ∙ rw e
+pub good_other_tag : (s : List ℕ) (t start end : ℕ) → t ≡ 0xA0 → (r : Bool) → r ≡ good_name_at s 0xA0 start end → r ≡ good_name_at s t start end
+good_other_tag s t start end e r r_is = r_is ∙ rw e
 
-  module _ (ne : t ≡ 0xA0 → ⊥) where
-    plain_is : good_name_at s t start end ≡ ((text_tag t && ascii (slice start end s)) || (sealed_tag t && true))
-    unfolding good_name_at name_of good_name sealed
-    plain_is = good_is (raw t (slice start end s)) (plain t (slice start end s)) (rw (ne_eqb t 0xA0 ne, name_of))
+pub good_part : (s : List ℕ) (t start end : ℕ) → start ≤ end → (r : Bool) → r ≡ is_some (read_name (raw t (take (end - start) (drop start s)))) → r ≡ good_name_at s t start end
+unfolding good_name_at
+good_part s t start end h r r_is = r_is ∙ rw (part_is s start end h)
 
-    module _ (b : Bool) (b_is : b ≡ sealed_tag t) where
-      pub good_sealed : b ≡ true → true ≡ good_name_at s t start end
-      good_sealed e = rw (plain_is, ← b_is, e) (go (text_tag t && ascii (slice start end s)))
+module _ (t : ℕ) (c : List ℕ) (ne : t ≡ 0xA0 → ⊥) where
+  plain_is : is_some (read_name (raw t c)) ≡ ((text_tag t && ascii c) || (sealed_tag t && true))
+  unfolding name_of good_name sealed
+  plain_is = good_is (raw t c) (plain t c) (rw (ne_eqb t 0xA0 ne, name_of))
+
+  module _ (b : Bool) (b_is : b ≡ sealed_tag t) where
+    pub good_sealed : b ≡ true → true ≡ is_some (read_name (raw t c))
+    good_sealed e = rw (plain_is, ← b_is, e) (go (text_tag t && ascii c))
+      where
+        go : (v : Bool) → true ≡ (v || true)
+        go true = refl
+        go false = refl
+
+    module _ (not_sealed : b ≡ false) (d : Bool) (d_is : d ≡ text_tag t) where
+      pub good_text : d ≡ true → (r : Bool) → r ≡ ascii c → r ≡ is_some (read_name (raw t c))
+      good_text e r r_is = r_is ∙ rw (plain_is, ← b_is, not_sealed, ← d_is, e) (go (ascii c))
         where
-          go : (v : Bool) → true ≡ (v || true)
+          go : (v : Bool) → v ≡ (v || false)
           go true = refl
           go false = refl
 
-      module _ (not_sealed : b ≡ false) (d : Bool) (d_is : d ≡ text_tag t) where
-        pub good_text : d ≡ true → (r : Bool) → r ≡ ascii_at s start end → r ≡ good_name_at s t start end
-        unfolding ascii_at
-        good_text e r r_is = r_is ∙ rw (plain_is, ← b_is, not_sealed, ← d_is, e) (go (ascii (slice start end s)))
-          where
-            go : (v : Bool) → v ≡ (v || false)
-            go true = refl
-            go false = refl
-
-        pub good_unknown : d ≡ false → false ≡ good_name_at s t start end
-        good_unknown e = rw (plain_is, ← b_is, not_sealed, ← d_is, e)
+      pub good_unknown : d ≡ false → false ≡ is_some (read_name (raw t c))
+      good_unknown e = rw (plain_is, ← b_is, not_sealed, ← d_is, e)

@@ -6,7 +6,7 @@ use mathlib.Core.Option.{Option, none, some}
 use mathlib.Core.List.{List, [], ◌∷◌, ◌++◌, append-nil}
 use native.Mathlib.Omega.{arith}
 use native.Mathlib.Numerals.{add-one, add-two, add-three, add-four}
-use lib.ListN.{length, get_or, take, length-append}
+use lib.ListN.{length, get_or, take, drop, length-append}
 use lib.Seq.{slice, slice-cons, length-slice, take_at}
 use lib.Dec.{T, ltb}
 use borrow.Author.Tests.{eq-eqb, ne_eqb, lt-ltb, ltb-true}
@@ -25,9 +25,9 @@ use Rattle.reading.proofs.Codecs.{other_c, name_c}
 use Rattle.std.specs.Prelude as std
 use Rattle.std.specs.Prelude.{Result, Ok, Err, Some, None}
 use Rattle.der.specs.Places.{found, place_element, element_at, found?}
-use Rattle.der.specs.Reads.{found_read, part_of_part}
+use Rattle.der.specs.Reads.{part_is, found_read, part_of_part}
 use Rattle.der.specs.Runs.{start_of}
-use Rattle.entries.specs.Entries.{srv_oid_at, text_tag_of, text_of, named, place_name, other_at, form_of, whole_at, place_text, text_place}
+use Rattle.entries.specs.Entries.{text_tag_of, text_of, named, place_name, other_at, form_of, whole_at, place_text, text_place}
 use Rattle.entries.specs.declared.Name.{Name}
 use Rattle.entries.specs.declared.Unreadable.{Unreadable}
 use Rattle.entries.specs.declared.NameForm.{NameForm}
@@ -290,10 +290,9 @@ module _ (s : List ℕ) (at end : ℕ) (h : at + 2 ≤ end) (fits : end ≤ leng
         srv_other_length n =
             with_other λ m p o t c q. none_here (same o srv_oid) (oid_other m p o t c q long x x_is low n) m p o t c q refl
 
-        module _ (eight : get_or s (at + 3) 0 ≡ 8) (r : Bool) (r_is : r ≡ srv_oid_at s (at + 4) (at + 12)) where
+        module _ (eight : get_or s (at + 3) 0 ≡ 8) (r : Bool) (r_is : r ≡ same (take (at + 12 - (at + 4)) (drop (at + 4) s)) srv_oid) where
           oid_is : (m : GeneralName) (p : whole_at s at end ≡ some m) (o : List ℕ) (t : ℕ) (c : List ℕ) (q : m ≡ other o t c) → r ≡ same o srv_oid
-          unfolding srv_oid_at
-          oid_is m p o t c q = r_is ∙ rw (oid_here m p o t c q long x x_is low eight)
+          oid_is m p o t c q = r_is ∙ rw (part_is s (at + 4) (at + 12) (omega arith), oid_here m p o t c q long x x_is low eight)
 
           pub srv_other_oid : r ≡ false → None ≡ text_place srv_text s at end
           srv_other_oid e = with_other λ m p o t c q. none_here r e m p o t c q (oid_is m p o t c q)

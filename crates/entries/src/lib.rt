@@ -3,14 +3,16 @@
 #![tactic(auto, using(crate::proofs::Laws::laws))]
 
 ghost use Rattle.std.specs.Prelude.{◌+◌, ◌≤◌, ◌≡◌, true, length, get_or};
-ghost use Rattle.rules.specs.San.{text_tag, sealed_tag};
+ghost use Rattle.rules.specs.San.{srv_oid, text_tag, sealed_tag, good_srv_name};
 ghost use Rattle.rules.specs.Matching.{srv_text, tagged_text};
-ghost use Rattle.reading.specs.Reader.{is_some};
-ghost use Rattle.entries.specs.Entries.{srv_oid_at, cn_oid_at, other_kind, other_at, name_at, kind_by, attribute_at, subtree_at, ascii_at, good_srv_at, good_name_at, good_subtree_name_at, good_subtree_at, form_of, whole_at, text_place};
+ghost use Rattle.reading.specs.Reader.{is_some, raw};
+ghost use Rattle.reading.specs.Strings.{read_name};
+ghost use Rattle.rules.specs.Bytes.{same};
+ghost use Rattle.entries.specs.Entries.{other_kind, other_at, name_at, kind_by, attribute_at, subtree_at, good_name_at, good_subtree_name_at, good_subtree_at, form_of, whole_at, text_place};
 
 use der::{ElementError, content_start, read_element, tagged, value};
 use dns::dns_restriction;
-use octets::{same_bytes, wide};
+use octets::{ascii, same_bytes, wide};
 use rules::SRV_OID;
 use srv::restriction;
 use words::word;
@@ -55,35 +57,18 @@ pub enum NameForm {
     Dns,
 }
 
-// Whether the bytes from start to end are the OID of an SRVName: eight bytes, compared as one number.
-fn is_srv_oid(s: &[u8], start: usize, end: usize) -> bool
-    requires start_le_end { start ≤ end }
-    requires end_in_bounds { end ≤ length s.now }
-    ensures { result ≡ srv_oid_at s.now start end }
+// Whether an OID is that of an SRVName: eight bytes, compared as one number.
+fn is_srv_oid(oid: &[u8]) -> bool
+    ensures { result ≡ same oid.now srv_oid }
 {
-    end - start == 8 && word(s, start) == word(&SRV_OID, 0)
+    oid.len() == 8 && word(oid, 0) == word(&SRV_OID, 0)
 }
 
-// Whether the bytes from start to end are the OID of a CN.
-fn is_cn_oid(s: &[u8], start: usize, end: usize) -> bool
-    requires start_le_end { start ≤ end }
-    requires end_in_bounds { end ≤ length s.now }
-    ensures { result ≡ cn_oid_at s.now start end }
+// The kind of an otherName, by its OID: "9 for an SRVName", else A0's low five bits.
+fn other_kind(oid: &[u8]) -> usize
+    ensures { result ≡ other_kind oid.now }
 {
-    same_bytes(&s[start..end], &CN_OID)
-}
-
-// The kind of an otherName, by its OID, which lies from start to end: "9 for an SRVName", else A0's low five bits.
-fn other_kind(s: &[u8], start: usize, end: usize) -> usize
-    requires start_le_end { start ≤ end }
-    requires end_in_bounds { end ≤ length s.now }
-    ensures { result ≡ other_kind s.now start end }
-{
-    if is_srv_oid(s, start, end) {
-        SRV_NAME
-    } else {
-        0
-    }
+    if is_srv_oid(oid) { SRV_NAME } else { 0 }
 }
 
 // "A0, otherName: an OID element (tag 06, content not empty), then tag A0 holding exactly one element."
@@ -105,7 +90,7 @@ fn other_name(s: &[u8], start: usize, end: usize) -> Result<Name, Unreadable>
         return Err(Unreadable);
     }
     Ok(Name {
-        kind: other_kind(s, oid.start, oid.next),
+        kind: other_kind(&s[oid.start..oid.next]),
         tag: value.tag,
         text: value.start,
     })
@@ -155,7 +140,7 @@ pub fn attribute(s: &[u8], tag: u8, start: usize, end: usize) -> Result<Name, Un
     if value.next != end {
         return Err(Unreadable);
     }
-    let cn = is_cn_oid(s, oid.start, oid.next);
+    let cn = same_bytes(&s[oid.start..oid.next], &CN_OID);
     Ok(Name {
         kind: attribute_kind(cn, value.tag),
         tag: value.tag,
@@ -179,15 +164,6 @@ pub fn subtree_shape(s: &[u8], tag: u8, start: usize, end: usize) -> Result<Name
     name_shape(s, name.tag, name.start, end)
 }
 
-// "every byte below 128"
-fn is_ascii(s: &[u8], start: usize, end: usize) -> bool
-    requires start_le_end { start ≤ end }
-    requires end_in_bounds { end ≤ length s.now }
-    ensures { result ≡ ascii_at s.now start end }
-{
-    octets::ascii(&s[start..end])
-}
-
 // "81, 82, 86"
 fn is_text_tag(tag: u8) -> bool
     ensures { result ≡ text_tag tag }
@@ -203,12 +179,10 @@ fn is_sealed_tag(tag: u8) -> bool
 }
 
 // "that inner element has tag 16, at least one byte, all below 128"
-fn good_srv(s: &[u8], tag: u8, text: usize, end: usize) -> bool
-    requires text_le_end { text ≤ end }
-    requires end_in_bounds { end ≤ length s.now }
-    ensures { result ≡ good_srv_at s.now tag text end }
+fn good_srv(tag: u8, text: &[u8]) -> bool
+    ensures { result ≡ good_srv_name tag text.now }
 {
-    tag == 0x16 && text < end && is_ascii(s, text, end)
+    tag == 0x16 && !text.is_empty() && ascii(text)
 }
 
 // The rules of an otherName: "If the OID is the eight bytes ..".
@@ -220,18 +194,16 @@ fn good_other(s: &[u8], start: usize, end: usize) -> bool
     let Ok(name) = other_name(s, start, end) else {
         return false;
     };
-    name.kind != SRV_NAME || good_srv(s, name.tag, name.text, end)
+    name.kind != SRV_NAME || good_srv(name.tag, &s[name.text..end])
 }
 
 // The rules of a GeneralName that is no otherName: "81, 82, 86: every byte below 128. 87, 88, A3, A4, A5: content not looked into. Tags
 // not named here are unreadable."
-fn good_plain(s: &[u8], tag: u8, start: usize, end: usize) -> bool
-    requires start_le_end { start ≤ end }
-    requires end_in_bounds { end ≤ length s.now }
-    requires fact { tag ≡ 0xA0 → ⊥ }
-    ensures { result ≡ good_name_at s.now tag start end }
+fn good_plain(tag: u8, content: &[u8]) -> bool
+    requires { tag ≡ 0xA0 → ⊥ }
+    ensures { result ≡ is_some (read_name (raw tag content.now)) }
 {
-    is_sealed_tag(tag) || is_text_tag(tag) && is_ascii(s, start, end)
+    is_sealed_tag(tag) || is_text_tag(tag) && ascii(content)
 }
 
 // Whether a GeneralName is readable. Those of a subtree ask `good_plain`, so that the compiler writes this into the one loop that calls it.
@@ -243,7 +215,7 @@ pub fn good_name(s: &[u8], tag: u8, start: usize, end: usize) -> bool
     if tag == 0xA0 {
         return good_other(s, start, end);
     }
-    good_plain(s, tag, start, end)
+    good_plain(tag, &s[start..end])
 }
 
 // The rules of an otherName in a subtree: "An SRVName here has one of three texts".
@@ -257,7 +229,7 @@ fn good_other_subtree(s: &[u8], start: usize, end: usize) -> bool
         return false;
     };
     name.kind != SRV_NAME
-        || good_srv(s, name.tag, name.text, end) && restriction(&s[name.text..end])
+        || good_srv(name.tag, &s[name.text..end]) && restriction(&s[name.text..end])
 }
 
 // The GeneralName of a subtree. Of a dNSName: "an empty text contains every name; any other text must be a domain, else 5". A domain is
@@ -273,7 +245,7 @@ fn good_subtree_name(s: &[u8], tag: u8, start: usize, end: usize) -> bool
     if tag == 0x82 {
         return dns_restriction(&s[start..end]);
     }
-    good_plain(s, tag, start, end)
+    good_plain(tag, &s[start..end])
 }
 
 // Whether a subtree is readable.
@@ -328,7 +300,7 @@ pub fn srv_text(s: &[u8], at: usize, end: usize) -> Option<usize>
     if 128 <= s[at + 1] {
         return other_text(s, at, end);
     }
-    if s[at + 3] == 8 && is_srv_oid(s, at + 4, at + 12) {
+    if s[at + 3] == 8 && is_srv_oid(&s[at + 4..at + 12]) {
         return Some(at + 16);
     }
     None

@@ -1,103 +1,78 @@
 // The constraint strings of all issuers, end to end in one slice beside their lengths: whether the lengths fit, and each string.
 #![tactic(auto)]
 
-ghost use Rattle.std.specs.Prelude.{ℕ, ◌≤◌, ◌*◌, ◌≡◌, true, List, length, take};
+ghost use Rattle.std.specs.Prelude.{ℕ, ◌≤◌, ◌≡◌, List, length, take, MatchOption};
+ghost use Rattle.std.proofs.Math.Option.{none, some};
+ghost use Rattle.rules.specs.Bytes.{cut};
 ghost use Rattle.rules.specs.Seen.{lengths_fit, strings_of, strings_by, lengths_from_c};
-ghost use Rattle.issuers.specs.Strings.{start_of, string_at};
-ghost use Rattle.issuers.specs.FromC.{pairs};
+ghost use Rattle.issuers.specs.Strings.{string_at};
 
-use octets::{sums_to, wide};
+mod cut;
+
+pub use cut::Strings;
+use octets::sums_to;
 use rules::MOST_ISSUERS;
 
 // "a ninth, or lengths with another sum, is 7".
+#[tactic(auto, using(crate::proofs::Laws::laws))]
 pub fn lengths_fit(lengths: &[usize], size: usize) -> bool
     ensures { result ≡ lengths_fit lengths.now size }
 {
-    if MOST_ISSUERS < lengths.len() {
-        return false;
-    }
-    sums_to(lengths, size)
-}
-
-// Where string k starts.
-fn start_of(lengths: &[usize], size: usize, k: usize) -> usize
-    requires size_value { lengths_fit lengths.now size ≡ true }
-    requires k_in_bounds { k ≤ length lengths.now }
-    ensures { result ≡ start_of lengths.now k }
-{
-    let mut at = 0;
-    let mut i = 0;
-    while i < k {
-        at += lengths[i];
-        i += 1;
-    }
-    at
+    lengths.len() <= MOST_ISSUERS && sums_to(lengths, size)
 }
 
 // String k, as a part of the bytes; an empty part where there are no more or the lengths are wrong.
+#[tactic(auto, using(crate::proofs::Laws::laws))]
 pub fn string_of<'a>(lengths: &[usize], bytes: &'a [u8], k: usize) -> &'a [u8]
     ensures { result.now ≡ string_at lengths.now bytes.now k }
 {
-    let size = bytes.len();
-    let fit = lengths_fit(lengths, size);
-    if !fit {
-        return &bytes[..0];
+    if k >= lengths.len() || !lengths_fit(lengths, bytes.len()) {
+        return &[];
     }
-    if lengths.len() <= k {
-        return &bytes[..0];
-    }
-    let start = start_of(lengths, size, k);
-    let end = start + lengths[k];
-    &bytes[start..end]
+    let start = lengths[..k].iter().sum();
+    &bytes[start..start + lengths[k]]
 }
 
-// Lengths that C hands over: how many, and each. Nine are no lengths for any bytes.
+// The strings one by one; none where the lengths are wrong.
+#[tactic(auto, using(crate::proofs::Laws::laws))]
+pub fn strings_of<'a>(lengths: &'a [usize], bytes: &'a [u8]) -> Option<Strings<'a>>
+    ensures { MatchOption result (strings_of lengths.now bytes.now ≡ none) (λ strings. strings_of lengths.now bytes.now ≡ some (cut strings.lengths.now strings.bytes.now)) }
+{
+    if lengths_fit(lengths, bytes.len()) {
+        Some(Strings { lengths, bytes })
+    } else {
+        None
+    }
+}
+
+// Lengths that C hands over, no more than there may be issuers.
 #[derive(Clone, Copy)]
 pub struct Lengths {
     pub count: usize,
-    pub values: [usize; 9],
+    pub values: [usize; 8],
+    ghost count_in_bounds: { count ≤ 8 },
 }
 
-// Each two bytes as a number, high byte first.
-fn read_pairs(b: &[u8], count: usize) -> [usize; 9]
-    requires count_bound { count ≤ 8 }
-    requires b_len { length b.now ≡ 2 * count }
-    ensures result_value { take count result ≡ pairs b.now }
-    ensures result_len { length result ≡ 9 }
-{
-    let mut values = [0usize; 9];
-    let mut i = 0;
-    while i < count {
-        let high = wide(b[2 * i]);
-        let low = wide(b[2 * i + 1]);
-        values[i] = high * 256 + low;
-        i += 1;
+impl Lengths {
+    pub fn as_slice(&self) -> &[usize]
+        ensures { result.now ≡ take self.now.count self.now.values }
+    {
+        &self.values[..self.count]
     }
-    values
 }
 
-// "From C each length is two bytes, high first; an odd count is 7", and so is a ninth length: both give nine zeros.
-pub fn lengths_from_c(b: &[u8]) -> Lengths
-    ensures by_index { (bytes : List ℕ) → strings_of (take result.count result.values) bytes ≡ strings_by (lengths_from_c b.now) bytes }
-    ensures count_in_bounds { result.count ≤ length result.values }
+// "From C each length is two bytes, high first; an odd count is 7", and so is a ninth length: neither are lengths for any bytes.
+#[tactic(auto, using(crate::proofs::Laws::laws))]
+pub fn lengths_from_c(b: &[u8]) -> Option<Lengths>
+    ensures { MatchOption result ((bytes : List ℕ) → strings_by (lengths_from_c b.now) bytes ≡ none) (λ lengths. lengths_from_c b.now ≡ some (take lengths.count lengths.values)) }
 {
-    let n = b.len();
-    if n % 2 == 1 {
-        return Lengths {
-            count: 9,
-            values: [0; 9],
-        };
+    let count = b.len() / 2;
+    if b.len() % 2 != 0 || MOST_ISSUERS < count {
+        return None;
     }
-    if 16 < n {
-        return Lengths {
-            count: 9,
-            values: [0; 9],
-        };
+    let mut values = [0; MOST_ISSUERS];
+    for (i, pair) in b.chunks_exact(2).enumerate() {
+        values[i] = usize::from(pair[0]) * 256 + usize::from(pair[1]);
     }
-    let count = n / 2;
-    let values = read_pairs(b, count);
-    Lengths {
-        count: count,
-        values: values,
-    }
+    Some(Lengths { count, values })
 }

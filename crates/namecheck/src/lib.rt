@@ -3,10 +3,11 @@
 // Decimals, single spaces, a line feed after each line." It fails closed: where a file is there and cannot be read, it writes no answer.
 #![tactic(auto)]
 
-ghost use Rattle.std.specs.Prelude.{◌+◌, ◌≤◌, ◌≡◌, length};
+ghost use Rattle.std.specs.Prelude.{◌≡◌};
+ghost use Rattle.std.specs.Io.{ReadsAtMost};
 ghost use Rattle.std.proofs.Math.Option.{some};
-ghost use Rattle.io.specs.Counts.{IsPrefixLen};
 ghost use Rattle.reading.specs.Calls.{inputs, verdict_on};
+ghost use Rattle.namecheck.specs.Code.{code};
 ghost use Rattle.namecheck.specs.Status.{one_length, status_of};
 
 use std::env::FillError;
@@ -17,174 +18,119 @@ use std::{fs, io};
 // "has at most 512"
 const MOST_ROWS: usize = 512;
 
-// The exit status of a match, of every other answer, and of no answer at all.
-const MATCHED: u32 = 0;
+// How the program ends: with a match, with another answer, or with no answer at all.
+#[derive(Clone, Copy, Debug, PartialEq, Eq)]
+enum Status {
+    Matched,
+    Otherwise,
+    Failed,
+}
 
-const OTHERWISE: u32 = 1;
+#[tactic(auto, unfolding(crate::specs::Code::code))]
+impl From<Status> for u32 {
+    ghost from_gives = { λ status number. number ≡ code status };
 
-const FAILED: u32 = 2;
+    fn from(status: Status) -> u32 {
+        match status {
+            Status::Matched => 0,
+            Status::Otherwise => 1,
+            Status::Failed => 2,
+        }
+    }
+}
 
-// Whether a file was read, and how many of its bytes lie at the start of the buffer.
-#[derive(Drop)]
-struct Loaded {
-    read: bool,
-    count: usize,
+#[tactic(auto, unfolding(crate::specs::Code::code, crate::specs::Status::status_of))]
+impl From<rules::Verdict> for Status {
+    ghost from_gives = { λ verdict status. code status ≡ status_of verdict };
+
+    fn from(verdict: rules::Verdict) -> Status {
+        if verdict.answer == rules::MATCH {
+            Status::Matched
+        } else {
+            Status::Otherwise
+        }
+    }
 }
 
 // What the system says of an error, without the number that `Display` puts behind it in parentheses.
 fn reason(error: io::Error, room: &mut [u8; 256]) -> &str {
     let mut left = &mut room[..];
     let _ = write!(left, "{error}");
-    let end = octets::find(&room[..], b'(');
-    let text = str::from_utf8(&room[..end]).unwrap_or("");
-    text.trim_end_matches('\0').trim_end()
-}
-
-// Says on standard error why a call failed, and on which file.
-fn failed(rt: &impl Eprint, path: &str, error: io::Error) -> Loaded
-    ensures { result.count ≡ 0 }
-{
-    let mut room = [0u8; 256];
-    let text = reason(error, &mut room);
-    let _ = eprintln!(rt; "{path}: {text}");
-    Loaded {
-        read: false,
-        count: 0,
-    }
-}
-
-// One read, to the buffer's bytes from index `from` on; a count of 0 at the end of the file.
-fn read_more(
-    rt: &impl Eprint,
-    file: &mut impl Read,
-    path: &str,
-    buffer: &mut [u8],
-    from: usize,
-) -> Loaded
-    requires { from ≤ length buffer.old }
-    ensures { from + result.count ≤ length buffer.old }
-{
-    match file.read(&mut buffer[from..]) {
-        Ok(count) => Loaded { read: true, count },
-        Err(error) => failed(rt, path, error),
-    }
+    let text = str::from_utf8(&room[..]).unwrap_or("");
+    let words = text.split_once('(').map_or(text, |(words, _)| words);
+    words.trim_end_matches('\0').trim_end()
 }
 
 // Reads until the buffer is full or the file ends. A read that fails part of the way is a failure: what came before it is not the
 // file.
-fn fill(rt: &impl Eprint, file: &mut impl Read, path: &str, buffer: &mut [u8]) -> Loaded
-    ensures { IsPrefixLen result.count buffer.new }
+fn fill(file: &mut impl Read, buffer: &mut [u8]) -> io::Result<usize>
+    ensures { ReadsAtMost result buffer.new }
 {
     let mut done = 0;
     while done < buffer.len() {
-        let more = read_more(rt, file, path, buffer, done);
-        if !more.read {
-            return Loaded {
-                read: false,
-                count: 0,
-            };
+        match file.read(&mut buffer[done..])? {
+            0 => break,
+            count => done += count,
         }
-        if more.count == 0 {
-            break;
-        }
-        done += more.count;
     }
-    Loaded {
-        read: true,
-        count: done,
-    }
+    Ok(done)
 }
 
 // The first bytes of a file, as many as the buffer holds: "a missing file is empty", and one that is there and cannot be read is a
 // failure. A buffer that holds one byte more than an input may have is enough: a longer file gives that many, and so answer 7.
-fn load<R: Files + Eprint>(rt: &R, path: &str, buffer: &mut [u8]) -> Loaded
-    ensures { IsPrefixLen result.count buffer.new }
+fn read(rt: &impl Files, path: &str, buffer: &mut [u8]) -> io::Result<usize>
+    ensures { ReadsAtMost result buffer.new }
 {
     match fs::open(rt, path) {
-        Ok(mut file) => fill(rt, &mut file, path, buffer),
+        Ok(mut file) => fill(&mut file, buffer),
+        Err(error) if error.kind() == ErrorKind::NotFound => Ok(0),
+        Err(error) => Err(error),
+    }
+}
+
+// What a file holds. Where it cannot be read, standard error says which file that is, and why.
+fn load<'a, R: Files + Eprint>(rt: &R, path: &str, buffer: &'a mut [u8]) -> Option<&'a [u8]> {
+    match read(rt, path, buffer) {
+        Ok(count) => Some(&buffer[..count]),
         Err(error) => {
-            if error.kind() != ErrorKind::NotFound {
-                return failed(rt, path, error);
-            }
-            Loaded {
-                read: true,
-                count: 0,
-            }
+            let mut room = [0u8; 256];
+            let text = reason(error, &mut room);
+            let _ = eprintln!(rt; "{path}: {text}");
+            None
         }
     }
 }
 
 // A write that fails changes nothing: the exit status is the verdict's all the same.
-fn show(rt: &impl Print, n: usize) {
-    let _ = print!(rt; "{n}");
-}
-
-// A number, and what follows it.
-fn show_then(rt: &impl Print, n: usize, separator: &str) {
-    show(rt, n);
-    let _ = rt.print(separator);
-}
-
 fn show_verdict(rt: &impl Print, v: rules::Verdict) {
-    show_then(rt, v.answer, " ");
-    show_then(rt, v.reference, " ");
-    show_then(rt, v.presented, " ");
-    show_then(rt, v.start, " ");
-    show_then(rt, v.length, " ");
-    show_then(rt, v.issuer, "\n");
+    let _ = println!(rt;
+        "{} {} {} {} {} {}",
+        v.answer, v.reference, v.presented, v.start, v.length, v.issuer
+    );
 }
 
 fn show_row(rt: &impl Print, r: rules::Row) {
-    show_then(rt, r.kind, " ");
-    show_then(rt, r.start, " ");
-    show_then(rt, r.length, " ");
-    show_then(rt, r.group, "\n");
+    let _ = println!(rt; "{} {} {} {}", r.kind, r.start, r.length, r.group);
 }
 
 // The rows of a SAN, or how many there are where that is too many. Nothing for one that is too long or unreadable.
 fn show_rows(rt: &impl Print, san: &[u8]) {
     let plan = listing::planned(san, MOST_ROWS, 0);
-    let told = plan.listed;
-    if told.answer == rules::TABLE_TOO_SHORT {
-        let _ = rt.print("rows ");
-        show_then(rt, told.count, "\n");
+    if plan.listed.answer == rules::TABLE_TOO_SHORT {
+        let _ = println!(rt; "rows {}", plan.listed.count);
         return;
     }
-    let n = plan.rows;
-    let mut c = plan.first;
-    let mut i = 0;
-    while i < n {
-        let t = listing::step_at(san, 0, c);
-        let row = t.row;
-        show_row(rt, row);
-        c = t.next;
-        i += 1;
+    let mut at = plan.first;
+    for _ in 0..plan.rows {
+        let step = listing::step_at(san, 0, at);
+        show_row(rt, step.row);
+        at = step.next;
     }
 }
 
-// The exit status of a verdict: 0 for a match and for nothing else.
-fn status(v: rules::Verdict) -> u32
-    ensures { result ≡ status_of v }
-{
-    if v.answer == rules::MATCH {
-        return MATCHED;
-    }
-    OTHERWISE
-}
-
-// The verdict, with the constraints as one string, or as none where they are empty.
-fn verdict_of(san: &[u8], subject: &[u8], constraints: &[u8], references: &[u8]) -> rules::Verdict
-    ensures { result ≡ verdict_on (inputs san.now subject.now constraints.now (some (one_length constraints.now)) references.now) }
-{
-    let n = constraints.len();
-    let lengths = [n; 1];
-    if n == 0 {
-        return verdict::verdict(san, subject, constraints, &lengths[..0], references);
-    }
-    verdict::verdict(san, subject, constraints, &lengths[..1], references)
-}
-
-// Writes what is judged; the exit status is that of the verdict on these four strings.
+// Writes what is judged; the exit status is that of the verdict on these four strings. The constraints are handed over as one string, or as
+// none where they are empty.
+#[tactic(auto, using(crate::proofs::Laws::laws))]
 pub fn judge(
     rt: &impl Print,
     san: &[u8],
@@ -194,55 +140,31 @@ pub fn judge(
 ) -> u32
     ensures { result ≡ status_of (verdict_on (inputs san.now subject.now constraints.now (some (one_length constraints.now)) references.now)) }
 {
-    let v = verdict_of(san, subject, constraints, references);
-    show_verdict(rt, v);
+    let verdict = match constraints.len() {
+        0 => verdict::verdict(san, subject, constraints, &[], references),
+        n => verdict::verdict(san, subject, constraints, &[n], references),
+    };
+    show_verdict(rt, verdict);
     show_rows(rt, san);
-    status(v)
+    Status::from(verdict).into()
 }
 
-// Reads the four files and, once each is read, judges them; the exit status.
-fn run<R: Files + Print + Eprint>(rt: &R) -> u32 {
+// Reads the four files and, once each is read, judges them; the exit status, or none where a file cannot be read.
+fn run<R: Files + Print + Eprint>(rt: &R) -> Option<u32> {
     let mut san = [0u8; rules::SAN_LIMIT + 1];
     let mut subject = [0u8; rules::SUBJECT_LIMIT + 1];
     let mut constraints = [0u8; rules::CONSTRAINTS_LIMIT + 1];
     let mut references = [0u8; rules::RECORDS_LIMIT + 1];
-    let a = load(rt, "san.der", &mut san);
-    if !a.read {
-        return FAILED;
-    }
-    let b = load(rt, "subject.der", &mut subject);
-    if !b.read {
-        return FAILED;
-    }
-    let c = load(rt, "nc.der", &mut constraints);
-    if !c.read {
-        return FAILED;
-    }
-    let d = load(rt, "refs.rec", &mut references);
-    if !d.read {
-        return FAILED;
-    }
-    let a = a.count;
-    let b = b.count;
-    let c = c.count;
-    let d = d.count;
-    judge(
-        rt,
-        &san[..a],
-        &subject[..b],
-        &constraints[..c],
-        &references[..d],
-    )
+    let san = load(rt, "san.der", &mut san)?;
+    let subject = load(rt, "subject.der", &mut subject)?;
+    let constraints = load(rt, "nc.der", &mut constraints)?;
+    let references = load(rt, "refs.rec", &mut references)?;
+    Some(judge(rt, san, subject, constraints, references))
 }
 
 // Whether the program was called with an argument, be it empty.
 fn has_arguments(rt: &impl Env) -> bool {
-    let mut room = [0u8; 1];
-    match rt.arg(1, &mut room) {
-        Ok(_) => true,
-        Err(FillError::TooLong) => true,
-        Err(FillError::NotPresent) => false,
-    }
+    !matches!(rt.arg(1, &mut [0u8; 1]), Err(FillError::NotPresent))
 }
 
 // The whole program, and its exit status. It takes no arguments.
@@ -251,7 +173,7 @@ pub fn namecheck_run<R: Env + Files + Print + Eprint>(rt: &R) -> u32 {
         let _ = rt.eprintln(
             "usage: namecheck   (no arguments; san.der, subject.der, nc.der and refs.rec of the current folder)",
         );
-        return FAILED;
+        return Status::Failed.into();
     }
-    run(rt)
+    run(rt).unwrap_or(Status::Failed.into())
 }

@@ -1,21 +1,20 @@
 -- A text of at most 63 bytes is a domain by its neighbouring bytes: its first and last byte are letters or digits, each byte may stand
 -- before the next, and the last is no digit.
 use Prim.Native.Nat.{ℕ, zero, suc, ◌+◌, ◌-◌, ◌<◌, ◌≤◌}
-use mathlib.Core.Path.{◌≡◌, refl, sym, ap, ◌∙◌}
-use mathlib.Core.Bool.{Bool, true, false, cond, not, ◌&&◌, ◌||◌, and-true, and-false, false≢true}
+use mathlib.Core.Path.{◌≡◌, refl, sym, ap, ap₂, ◌∙◌}
+use mathlib.Core.Bool.{Bool, true, false, cond, not, ◌&&◌, ◌||◌, and-true, and-false, or-false, false≢true}
 use mathlib.Core.List.{List, [], ◌∷◌}
 use native.Mathlib.Omega.{arith}
 use native.Mathlib.Numerals.{add-one}
 use lib.ListN.{length, get_or}
 use lib.Dec.{eqb, leb}
 use lib.Seq.{take-length}
-use lib.Bits.{bit_or}
-use borrow.Author.Tests.{eqb-true, eq-eqb, ne_eqb, le-leb, lt-leb, leb-true, leb-false, not-true, not-false}
+use borrow.Author.Tests.{eqb-true, ne_eqb, le-leb, lt-leb, leb-true, leb-false}
+use Rattle.std.specs.Char.{is_ascii_alphanumeric}
 use Rattle.rules.proofs.Cases.{by_cases}
 use Rattle.octets.proofs.Cut as cut
 use Rattle.words.specs.Words.{zero?, every}
-use Rattle.words.proofs.Every.{every_none, every_byte, every_cut, every_overlap}
-use Rattle.words.proofs.Values.{or_zero}
+use Rattle.words.proofs.Every.{Left, left_begin, step_fails, step_next, step_end, every_none, every_byte, every_cut}
 use Rattle.rules.specs.Bytes.{all, before, after}
 use Rattle.rules.specs.Names.{is, dot, hyphen, letter, digit, letter_digit_hyphen, ldh, label, longer, labels, last_of, domain}
 use Rattle.names.specs.Pairs.{alnum, bad, marks_from, marks}
@@ -234,97 +233,70 @@ domain_pairs (c ∷ s) h k e =
 
 -- ---- the code's tests
 
-module _ (b : ℕ) (l : Bool) (is_l : l ≡ letter b) where
-  pub alnum_letter : l ≡ true → true ≡ alnum b
-  unfolding alnum
-  alnum_letter e = rw (← is_l, e)
-
-  pub alnum_digit : l ≡ false → (r : Bool) → r ≡ digit b → r ≡ alnum b
-  unfolding alnum
-  alnum_digit e r f = rw (← is_l, e) f
-
-module _ (c d : ℕ) (a : Bool) (is_a : a ≡ alnum c) where
-  pub pair_alnum : a ≡ true → 0 ≡ bad c d
-  unfolding bad
-  pair_alnum e = rw (← is_a, e)
-
-  module _ (e : a ≡ false) where
-    pub pair_hyphen_dot : c ≡ 0x2D → d ≡ 0x2E → 1 ≡ bad c d
-    unfolding bad
-    pair_hyphen_dot f g = rw (← is_a, e, eq-eqb c 0x2D f, eq-eqb d 0x2E g)
-
-    pub pair_hyphen : c ≡ 0x2D → (d ≡ 0x2E → ⊥) → 0 ≡ bad c d
-    unfolding bad
-    pair_hyphen f g = rw (← is_a, e, eq-eqb c 0x2D f, ne_eqb d 0x2E g)
-
-    module _ (f : c ≡ 0x2D → ⊥) where
-      pub pair_dot_alnum : c ≡ 0x2E → (t : Bool) → t ≡ alnum d → t ≡ true → 0 ≡ bad c d
-      unfolding bad
-      pair_dot_alnum g t is_t h = rw (← is_a, e, ne_eqb c 0x2D f, eq-eqb c 0x2E g, ← is_t, h)
-
-      pub pair_dot : c ≡ 0x2E → (t : Bool) → t ≡ alnum d → t ≡ false → 1 ≡ bad c d
-      unfolding bad
-      pair_dot g t is_t h = rw (← is_a, e, ne_eqb c 0x2D f, eq-eqb c 0x2E g, ← is_t, h)
-
-      pub pair_other : (c ≡ 0x2E → ⊥) → 1 ≡ bad c d
-      unfolding bad
-      pair_other g = rw (← is_a, e, ne_eqb c 0x2D f, ne_eqb c 0x2E g)
+-- a letter or a digit, as the library tests it
+pub alnum_is_std : (b : ℕ) → is_ascii_alphanumeric b ≡ alnum b
+unfolding alnum letter digit
+alnum_is_std b = go (leb 0x30 b && leb b 0x39) (leb 0x41 b && leb b 0x5A) (leb 0x61 b && leb b 0x7A)
+  where
+    go : (d c l : Bool) → (d || c) || l ≡ (c || l) || d
+    go true true l = refl
+    go true false true = refl
+    go true false false = refl
+    go false c l = sym (or-false (c || l))
 
 whole : (l : List ℕ) → every zero? l 0 (length l) ≡ all zero? l
 unfolding every
 whole l = rw (take-length l)
 
--- no mark from a place on, over so many bytes
-unfoldable pub Clean : List ℕ → ℕ → ℕ → ℕ → Type 0
-Clean s at end x = eqb x 0 ≡ every zero? (marks s) at end
-
 module _ (s : List ℕ) where
-  pub clean_begin : (at : ℕ) → Clean s at (at + 0) 0
-  unfolding Clean
-  clean_begin at = sym (every_none zero? (marks s) at (at + 0) (omega arith))
+  -- sixteen pairs, one at a time
+  pub pairs_begin : (at : ℕ) → true ≡ every zero? (marks s) at at
+  pairs_begin at = sym (every_none zero? (marks s) at at (omega arith))
 
-  pub clean_none : Clean s 0 0 0
-  unfolding Clean
-  clean_none = sym (every_none zero? (marks s) 0 0 (omega arith))
-
-  pub clean_next : (at k x p : ℕ) → at + 17 ≤ length s → k < 16 → Clean s at (at + k) x
-      → p ≡ bad (get_or s (at + k) 0) (get_or s (at + k + 1) 0) → Clean s at (at + (k + 1)) (bit_or x p)
-  unfolding Clean
-  clean_next at k x p fits h inv e =
+  pub pairs_more : (at k : ℕ) (good p : Bool) → at + 17 ≤ length s → at ≤ k → k < at + 16 → good ≡ every zero? (marks s) at k
+      → p ≡ zero? (bad (get_or s k 0) (get_or s (k + 1) 0)) → good && p ≡ every zero? (marks s) at (k + 1)
+  pairs_more at k good p fits from h inv e =
       let n = marks_long s (omega arith) in
-      let z : at + (k + 1) ≡ at + k + 1 = omega arith in
-      let m : get_or (marks s) (at + k) 0 ≡ p = marks_at s (at + k) (omega arith) ∙ sym e in
-      rw (or_zero x p, inv, z)
-      (sym (every_cut zero? (marks s) at (at + k) (at + k + 1) (omega arith) (omega arith) (omega arith)
-      ∙ ap (λ t. every zero? (marks s) at (at + k) && t)
-      (every_byte zero? (marks s) (at + k) (at + k + 1) (omega arith) (omega arith)
-      ∙ rw (every_none zero? (marks s) (at + k + 1) (at + k + 1) (omega arith), m) (and-true (zero? p)))))
+      let m : zero? (get_or (marks s) k 0) ≡ p = ap zero? (marks_at s k (omega arith)) ∙ sym e in
+      sym (every_cut zero? (marks s) at k (k + 1) (omega arith) (omega arith) (omega arith)
+      ∙ ap₂ ◌&&◌ (sym inv)
+      (every_byte zero? (marks s) k (k + 1) (omega arith) (omega arith)
+      ∙ rw (every_none zero? (marks s) (k + 1) (k + 1) (omega arith), m) (and-true p)))
 
-  pub clean_end : (at k x : ℕ) → Clean s at (at + k) x → k ≤ 16 → 16 ≤ k → eqb x 0 ≡ every zero? (marks s) at (at + 16)
-  unfolding Clean
-  clean_end at k x inv h l = let e : k ≡ 16 = omega arith in rw e at inv
-
+  -- all pairs, sixteen at a time
   module _ (low : 17 ≤ length s) (short : length s ≤ 63) (ends : letter (get_or s (length s - 1) 0) ≡ true) (first : Bool) (is_first : first ≡ alnum (get_or s 0 0)) where
-    pub first_bad : not first ≡ true → false ≡ domain s
-    first_bad e = sym (sym (domain_pairs s (omega arith) short ends) ∙ rw (← is_first, not-true first e))
+    pub first_bad : first ≡ false → false ≡ domain s
+    first_bad e = sym (sym (domain_pairs s (omega arith) short ends) ∙ rw (← is_first, e))
 
-    pub pairs_end : not first ≡ false → (last at x y : ℕ) → last + 17 ≡ length s → Clean s 0 at x → last ≤ at → at ≤ last + 16
-        → eqb y 0 ≡ every zero? (marks s) last (last + 16) → eqb (bit_or x y) 0 ≡ domain s
-    unfolding Clean
-    pairs_end f last at x y is_last inv h k e =
-        let m : length (marks s) ≡ last + 16 = omega (arith, marks_long s (omega arith)) in
-        let a : every zero? (marks s) 0 at && every zero? (marks s) last (last + 16) ≡ every zero? (marks s) 0 (last + 16) =
-        every_overlap zero? (marks s) 0 last at (last + 16) (omega arith) h k (omega arith) in
-        let b : every zero? (marks s) 0 (last + 16) ≡ all zero? (marks s) = rw (← m) (whole (marks s)) in
-        rw (or_zero x y, inv, e) (a ∙ b ∙ rw (← is_first, not-false first f) at (domain_pairs s (omega arith) short ends))
+    module _ (starts : first ≡ true) (last at : ℕ) (is_last : last + 17 ≡ length s) (inv : Left zero? (marks s) 0 (last + 16) 0 at) where
+      all_marks : length (marks s) ≡ last + 16
+      all_marks = omega (arith, marks_long s (omega arith))
 
-  pub pairs_next : (last at x y : ℕ) → last + 17 ≡ length s → at < last → Clean s 0 at x
-      → eqb y 0 ≡ every zero? (marks s) at (at + 16) → Clean s 0 (at + 16) (bit_or x y)
-  unfolding Clean
-  pairs_next last at x y is_last h inv e =
-      rw (or_zero x y, inv, e)
-      (sym (every_cut zero? (marks s) 0 at (at + 16) (omega arith) (omega arith) (omega (arith, marks_long s (omega arith)))))
+      fits : last + 16 ≤ length (marks s)
+      fits = omega (arith, all_marks)
 
--- the last byte was found to be a letter
-pub ends_letter : (s : List ℕ) (r : Bool) → r ≡ letter (get_or s (length s - 1) 0) → r ≡ true → letter (get_or s (length s - 1) 0) ≡ true
-ends_letter s r e f = sym e ∙ f
+      by_marks : every zero? (marks s) 0 (last + 16) ≡ domain s
+      by_marks = rw (← all_marks) (whole (marks s)) ∙ rw (← is_first, starts) at (domain_pairs s (omega arith) short ends)
+
+      module _ (before : at ≤ last) (good : Bool) (is_good : good ≡ every zero? (marks s) at (at + 16)) where
+        pub pairs_fail : good ≡ false → false ≡ domain s
+        pairs_fail e = step_fails zero? (marks s) 0 (last + 16) fits 16 last at refl inv before good is_good e ∙ by_marks
+
+        pub pairs_next : good ≡ true → Left zero? (marks s) 0 (last + 16) 0 (at + 16)
+        pairs_next e = step_next zero? (marks s) 0 (last + 16) fits 16 last at refl inv before good is_good e
+
+      -- the last sixteen
+      module _ (r : Bool) (is_r : r ≡ every zero? (marks s) last (last + 16)) where
+        pub pairs_end : last ≤ at → at ≤ last + 16 → r ≡ domain s
+        pairs_end past within = step_end zero? (marks s) 0 (last + 16) fits 16 last at refl inv r is_r (omega arith) past within ∙ by_marks
+
+    pub pairs_near : first ≡ true → (last at : ℕ) → last + 17 ≡ length s → Left zero? (marks s) 0 (last + 16) 0 at → at < last → last ≤ at + 16
+        → (good : Bool) → good ≡ every zero? (marks s) at (at + 16) → good ≡ true
+        → (r : Bool) → r ≡ every zero? (marks s) last (last + 16) → r ≡ domain s
+    pairs_near f last at is_last inv before near good is_good e r is_r =
+        pairs_end f last (at + 16) is_last (pairs_next f last at is_last inv (omega arith) good is_good e) r is_r near (omega arith)
+
+  pub pairs_start : (last : ℕ) → 17 ≤ length s → last + 17 ≡ length s → Left zero? (marks s) 0 (last + 16) 0 0
+  pairs_start last low is_last = left_begin zero? (marks s) 0 (last + 16) 0 (omega (arith, marks_long s (omega arith))) (omega arith) (omega arith)
+
+pub ruleset pair_laws = (first_bad, pairs_start, pairs_fail, pairs_next, pairs_end, pairs_near)

@@ -39,3 +39,5 @@ module _ (ns : List ℕ) (total i left : ℕ) (inv : AddsUp ns total i left) whe
   pub adds_end : length ns ≤ i → eqb left 0 ≡ eqb (sum ns) total
   unfolding AddsUp sum
   adds_end h = eqb_swap left 0 ∙ (rw (drop_of_length-le ns h) at inv)
+
+pub ruleset laws = (adds_begin, adds_next, adds_fail, adds_end)

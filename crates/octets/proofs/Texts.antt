@@ -1,15 +1,14 @@
 -- Two texts compared without case, part by part.
-use Prim.Native.Nat.{ℕ, suc, ◌+◌, ◌-◌, ◌*◌, ◌<◌, ◌≤◌}
+use Prim.Native.Nat.{ℕ, ◌+◌, ◌-◌, ◌*◌, ◌<◌, ◌≤◌, min}
 use mathlib.Core.Path.{◌≡◌, refl, sym, ap, ap₂, ◌∙◌}
 use mathlib.Core.List.{List, [], ◌∷◌}
-use mathlib.Core.Bool.{Bool, true, false, not, ◌&&◌}
+use mathlib.Core.Bool.{Bool, true, false, ◌&&◌}
 use native.Mathlib.Omega.{arith}
-use native.Mathlib.Numerals.{add-one}
-use lib.ListN.{length, get_or, take, length-take, drop_of_length-le}
-use lib.Seq.{slice, slice-cons, length-slice, take-length}
-use lib.Dec.{eqb}
+use lib.ListN.{length, take, length-take, drop_of_length-le}
+use lib.Seq.{slice, length-slice, take-length}
+use lib.Dec.{eqb, leb}
 use lib.Bits.{bit_and, bit_or}
-use borrow.Author.Tests.{eq-eqb, not-true, not-false}
+use borrow.Author.Tests.{eq-eqb, leb-true, leb-false}
 use Rattle.words.specs.Words.{Number}
 use Rattle.words.proofs.Values.{value_same}
 use Rattle.words.proofs.Case.{same_words}
@@ -17,8 +16,8 @@ use Rattle.words.proofs.Letters.{others, same_but_case}
 use Rattle.words.proofs.Ranges.{slice_cut, past, stop, final}
 use Rattle.rules.specs.Names.{lower, same_text}
 use Rattle.octets.specs.Texts.{same_part}
-use Rattle.rules.proofs.Cases.{fails}
-use Rattle.octets.proofs.Compare.{text_append}
+use Rattle.rules.proofs.Cases.{fails, by_cases}
+use Rattle.octets.proofs.Compare.{text_append, text_lengths, each_is}
 
 -- a text is the same as itself
 same_self : (a : List ℕ) → same_text a a ≡ true
@@ -34,19 +33,6 @@ module _ (a b : List ℕ) (n : ℕ) (a_long : n ≤ length a) (b_long : n ≤ le
       (text_append (slice start m a) (slice start m b) (slice m end a) (slice m end b)
       (length-slice start m a (omega arith) ∙ sym (length-slice start m b (omega arith))))
 
-  part_byte : (at : ℕ) → at < n → same_part a b at (at + 1) ≡ eqb (lower (get_or a at 0)) (lower (get_or b at 0))
-  unfolding same_part same_text
-  part_byte at h =
-      rw (slice-cons at (at + 1) a 0 (omega arith) (omega arith), slice-cons at (at + 1) b 0 (omega arith) (omega arith), add-one, none a, none b)
-      (go (eqb (lower (get_or a at 0)) (lower (get_or b at 0))))
-    where
-      none : (s : List ℕ) → slice (suc at) (suc at) s ≡ []
-      none s = drop_of_length-le (take (suc at) s) {i = suc at} (simp length-take (omega arith))
-
-      go : (t : Bool) → t && true ≡ t
-      go true = refl
-      go false = refl
-
 part_none : (a b : List ℕ) (at end : ℕ) → end ≤ at → same_part a b at end ≡ true
 unfolding same_part same_text
 part_none a b at end h = rw (none a, none b)
@@ -59,6 +45,9 @@ part_whole : (a b : List ℕ) (n : ℕ) → n ≡ length a → n ≡ length b �
 unfolding same_part
 part_whole a b n e f =
     ap₂ same_text (ap (λ k. take k a) e ∙ take-length a) (ap (λ k. take k b) f ∙ take-length b)
+
+by_order : {P : Type 0} (m n : ℕ) → (m ≤ n → P) → (n < m → P) → P
+by_order m n f g = by_cases (leb m n) (λ e. f (leb-true m n e)) (λ e. g (leb-false m n e))
 
 -- what is left from `at` to the end is the same just where the part is
 unfoldable pub PartLeft : List ℕ → List ℕ → ℕ → ℕ → ℕ → Type 0
@@ -83,29 +72,9 @@ module _ (a b : List ℕ) (start end : ℕ) (a_long : end ≤ length a) (b_long 
       rw (part_none a b start start (omega arith)) at
       (final (same_part a b) end (part_cut a b end a_long b_long) start end start at (omega arith) inv last h k l)
 
-  -- ---- a byte at a time
-
-  module _ (within : at < end) where
-    pub few_equal : get_or a at 0 ≡ get_or b at 0 → PartLeft a b start end (at + 1)
-    few_equal e =
-        part_past (at + 1) (omega arith) (omega arith)
-        (part_byte a b end a_long b_long at within ∙ eq-eqb _ _ (ap lower e))
-
-    -- over two bytes of which `same_letter` was asked
-    module _ (same : Bool) (is_same : same ≡ eqb (lower (get_or a at 0)) (lower (get_or b at 0))) where
-      pub few_next : not same ≡ false → PartLeft a b start end (at + 1)
-      few_next e =
-          part_past (at + 1) (omega arith) (omega arith)
-          (part_byte a b end a_long b_long at within ∙ sym is_same ∙ not-false same e)
-
-      pub few_differ : not same ≡ true → false ≡ same_part a b start end
-      few_differ e =
-          part_stop (at + 1) (omega arith) (omega arith)
-          (part_byte a b end a_long b_long at within ∙ sym is_same ∙ not-true same e)
-
-  pub few_end : end ≤ at → true ≡ same_part a b start end
+  pub part_end : end ≤ at → true ≡ same_part a b start end
   unfolding PartLeft
-  few_end h = rw (part_none a b start start (omega arith), part_none a b at end h) at inv
+  part_end h = rw (part_none a b start start (omega arith), part_none a b at end h) at inv
 
 -- ---- eight bytes
 
@@ -136,33 +105,48 @@ word_cases a b at x y h k p q e = same_but_case a b at at x y h k p q e
 -- ---- the whole text
 
 module _ (a b : List ℕ) (n : ℕ) (a_long : n ≡ length a) (b_long : n ≡ length b) where
-  pub whole_few : (r : Bool) → r ≡ same_part a b 0 n → r ≡ same_text a b
-  whole_few r e = e ∙ part_whole a b n a_long b_long
+  pub whole_begin : PartLeft a b 0 n 0
+  whole_begin = part_begin a b 0 n
 
-  module _ (last at : ℕ) (is_last : last + 8 ≡ n) (inv : PartLeft a b 0 n at) (within : at ≤ last) (same : Bool) (is_same : same ≡ same_part a b at (at + 8)) where
-    pub whole_differ : not same ≡ true → false ≡ same_text a b
+  -- the eight bytes from `at` on, or the last eight, where fewer are left: those of them that were compared before are compared again
+  module _ (last at w : ℕ) (is_last : last + 8 ≡ n) (is_w : w ≡ min at last) (inv : PartLeft a b 0 n at) (within : at < n)
+      (same : Bool) (is_same : same ≡ same_part a b w (w + 8)) where
+    rest_is : last < at → same ≡ same_part a b 0 n
+    rest_is h =
+        let e : w ≡ last = omega arith in
+        is_same ∙ rw (e, is_last) (part_final a b 0 n (omega arith) (omega arith) at inv last (omega arith) (omega arith) (omega arith))
+
+    whole_past : at ≤ last → same ≡ true → PartLeft a b 0 n (at + 8)
+    whole_past h e =
+        let z : w ≡ at = omega arith in
+        part_past a b 0 n (omega arith) (omega arith) at inv (at + 8) (omega arith) (omega arith) (rw z at (sym is_same ∙ e))
+
+    pub whole_differ : same ≡ false → false ≡ same_text a b
     whole_differ e =
-        part_stop a b 0 n (omega arith) (omega arith) at inv (at + 8) (omega arith) (omega arith) (sym is_same ∙ not-true same e)
+        by_order at last
+        (λ h. let z : w ≡ at = omega arith in
+        part_stop a b 0 n (omega arith) (omega arith) at inv (at + 8) (omega arith) (omega arith) (rw z at (sym is_same ∙ e)))
+        (λ h. sym e ∙ rest_is h)
         ∙ part_whole a b n a_long b_long
 
-    pub whole_next : not same ≡ false → PartLeft a b 0 n (at + 8)
-    whole_next e =
-        part_past a b 0 n (omega arith) (omega arith) at inv (at + 8) (omega arith) (omega arith) (sym is_same ∙ not-false same e)
+    pub whole_next : same ≡ true → 8 < n - at → PartLeft a b 0 n (at + 8)
+    whole_next e h = whole_past (omega arith) e
 
-    -- the last eight: those of them that were compared before are compared again
-    pub whole_last : not same ≡ false → last < at + 8 → PartLeft a b 0 n last
-    unfolding PartLeft
-    whole_last e h =
-        rw (part_none a b 0 0 (omega arith))
-        (part_final a b 0 n (omega arith) (omega arith) (at + 8) (whole_next e) last (omega arith) (omega arith) (omega arith))
-
-    pub whole_end : not same ≡ false → last ≤ at → true ≡ same_text a b
+    pub whole_end : same ≡ true → n - at ≤ 8 → true ≡ same_text a b
     whole_end e h =
-        few_end a b 0 n (omega arith) (omega arith) (at + 8) (whole_next e) (omega arith) ∙ part_whole a b n a_long b_long
+        by_order at last
+        (λ k. part_end a b 0 n (omega arith) (omega arith) (at + 8) (whole_past k e) (omega arith))
+        (λ k. sym e ∙ rest_is k)
+        ∙ part_whole a b n a_long b_long
 
   -- texts whose first eight bytes differ beyond the case
   pub whole_early : 8 ≤ n → (x y : ℕ) → Number 8 a 0 x → Number 8 b 0 y → (bit_or x 0x2020202020202020 ≡ bit_or y 0x2020202020202020 → ⊥)
       → false ≡ same_text a b
   whole_early h x y p q d =
-      whole_differ (n - 8) 0 (omega arith) (part_begin a b 0 n) (omega arith) false
+      whole_differ (n - 8) 0 0 (omega arith) (omega arith) whole_begin (omega arith) false
       (word_differs a b 0 x y (omega arith) (omega arith) p q d) refl
+
+-- what `same_word` and `same_text` return
+pub ruleset word_laws = (word_same, word_differs, word_cases)
+
+pub ruleset text_laws = (text_lengths, each_is, whole_begin, whole_early, whole_differ, whole_next, whole_end)

@@ -6,7 +6,9 @@ ghost use Rattle.rules.specs.Bytes.{all, any, same, before, after};
 ghost use Rattle.rules.specs.Names.{is, letter, digit, letter_digit_hyphen, scheme_byte, same_text};
 ghost use Rattle.rules.specs.Names as names;
 ghost use Rattle.rules.specs.Bytes as bytes;
-ghost use Rattle.octets.specs.Texts.{same_part};
+ghost use Rattle.octets.specs.Texts.{same_part, each_same};
+
+use words::word;
 
 // The bit in which a letter and its capital differ, of each byte.
 const CASE: u64 = 0x2020202020202020;
@@ -15,137 +17,86 @@ const CASE: u64 = 0x2020202020202020;
 pub fn wide(x: u8) -> usize
     ensures { (result ≡ x) × (result < 256) }
 {
-    x as usize
+    usize::from(x)
 }
 
 // "Letters compare without case": A to Z become a to z, every other byte stays.
+#[tactic(auto, unfolding(rules::specs::Names::lower))]
 pub fn lower(b: u8) -> u8
     ensures { result ≡ names.lower b }
 {
-    if b < 0x41 {
-        return b;
-    }
-    if 0x5A < b {
-        return b;
-    }
-    b + 32
+    b.to_ascii_lowercase()
 }
 
 // A to Z or a to z.
+#[tactic(auto, unfolding(rules::specs::Names::letter))]
 pub fn is_letter(b: u8) -> bool
     ensures { result ≡ letter b }
 {
-    if 0x61 <= b {
-        return b <= 0x7A;
-    }
-    if b < 0x41 {
-        return false;
-    }
-    b <= 0x5A
+    b.is_ascii_alphabetic()
 }
 
 // 0 to 9.
+#[tactic(auto, unfolding(rules::specs::Names::digit))]
 pub fn is_digit(b: u8) -> bool
     ensures { result ≡ digit b }
 {
-    if b < 0x30 {
-        return false;
-    }
-    b <= 0x39
+    b.is_ascii_digit()
 }
 
 // "A label has letters, digits and hyphens".
+#[tactic(auto, unfolding(rules::specs::Names::letter_digit_hyphen))]
 pub fn is_ldh(b: u8) -> bool
     ensures { result ≡ letter_digit_hyphen b }
 {
-    let letter = is_letter(b);
-    if letter {
-        return true;
-    }
-    let digit = is_digit(b);
-    if digit {
-        return true;
-    }
-    b == 0x2D
+    is_letter(b) || is_digit(b) || b == b'-'
 }
 
 // "letters, digits, "+", "-", ".""
+#[tactic(auto, unfolding(rules::specs::Names::scheme_byte))]
 pub fn is_scheme_byte(b: u8) -> bool
     ensures { result ≡ scheme_byte b }
 {
-    let ldh = is_ldh(b);
-    if ldh {
-        return true;
-    }
-    if b == 0x2B {
-        return true;
-    }
-    b == 0x2E
+    is_letter(b) || is_digit(b) || b == b'+' || b == b'-' || b == b'.'
 }
 
 // Whether two lists of bytes are the same, byte for byte.
+#[tactic(auto, using(crate::proofs::Compare::same_is))]
 pub fn same_bytes(a: &[u8], b: &[u8]) -> bool
     ensures { result ≡ same a.now b.now }
 {
-    let n = a.len();
-    if n != b.len() {
-        return false;
-    }
-    let mut i = 0;
-    while i < n {
-        if a[i] != b[i] {
-            return false;
-        }
-        i += 1;
-    }
-    true
+    a == b
 }
 
 // Whether two bytes that differ are one letter: then the lesser is the capital. Where two bytes do not differ nothing is folded,
 // so this may not be asked of them.
+#[tactic(auto, using(crate::proofs::Classes::letter_less, crate::proofs::Classes::letter_greater))]
 fn same_letter(x: u8, y: u8) -> bool
     requires { x ≡ y → ⊥ }
     ensures { result ≡ eqb (names.lower x) (names.lower y) }
 {
-    if x < y {
-        return lower(x) == y;
-    }
-    lower(y) == x
+    if x < y { lower(x) == y } else { lower(y) == x }
 }
 
-// Whether the bytes of two texts from start to end are the same without case: left at the first difference, and folded only where two
+// Whether each byte of a text is the same without case as the byte of another: left at the first difference, and folded only where two
 // bytes differ.
-fn same_few(a: &[u8], b: &[u8], start: usize, end: usize) -> bool
-    requires start_le_end { start ≤ end }
-    requires end_in_bounds { end ≤ length a.now }
-    requires end_in_bounds_2 { end ≤ length b.now }
-    ensures { result ≡ same_part a.now b.now start end }
+fn each_same(a: &[u8], b: &[u8]) -> bool
+    ensures { result ≡ each_same a.now b.now }
 {
-    let mut k = start;
-    while k < end {
-        let x = a[k];
-        let y = b[k];
-        if x != y {
-            let same = same_letter(x, y);
-            if !same {
-                return false;
-            }
-        }
-        k += 1;
-    }
-    true
+    a.iter().zip(b).all(|(&x, &y)| x == y || same_letter(x, y))
 }
 
 // Whether eight bytes are the same without case. A letter and its capital differ in one bit, so that two words which differ in another
 // are left at once. In that bit they may differ where a byte is a letter alone: with the bit set, a small letter. What is no small letter
 // has the highest bit, is past `z`, or is before `a`; the last two make the highest bit of a sum and of a difference.
+#[tactic(auto, using(crate::proofs::Texts::word_laws))]
 fn same_word(a: &[u8], b: &[u8], at: usize) -> bool
     requires at_in_bounds { at + 8 ≤ length a.now }
     requires at_in_bounds_2 { at + 8 ≤ length b.now }
     ensures { result ≡ same_part a.now b.now at (at + 8) }
 {
-    let x = words::word(a, at);
-    let y = words::word(b, at);
+    let x = word(a, at);
+    let y = word(b, at);
     if x == y {
         return true;
     }
@@ -164,6 +115,7 @@ fn same_word(a: &[u8], b: &[u8], at: usize) -> bool
 // Whether two texts are the same without case: eight bytes at a time, at the end the last eight, left at the first eight that differ.
 // Most that differ do so in the first eight, which are looked at before the loop. `same_word` has one call, so that the compiler writes it
 // into the loop.
+#[tactic(auto, using(crate::proofs::Texts::text_laws))]
 pub fn same_text(a: &[u8], b: &[u8]) -> bool
     ensures { result ≡ same_text a.now b.now }
 {
@@ -172,32 +124,23 @@ pub fn same_text(a: &[u8], b: &[u8]) -> bool
         return false;
     }
     if n < 8 {
-        return same_few(a, b, 0, n);
+        return each_same(a, b);
     }
-    let x = words::word(a, 0);
-    let y = words::word(b, 0);
-    if x | CASE != y | CASE {
+    if word(a, 0) | CASE != word(b, 0) | CASE {
         return false;
     }
     let last = n - 8;
-    let mut k = 0;
-    loop {
-        let same = same_word(a, b, k);
-        if !same {
+    for k in (0..n).step_by(8) {
+        if !same_word(a, b, k.min(last)) {
             return false;
         }
-        if last <= k {
-            return true;
-        }
-        k += 8;
-        if last < k {
-            k = last;
-        }
     }
+    true
 }
 
 // The same of a text that is held against many: one of another length, or whose first eight bytes differ beyond the case, is left before
 // `same_text` is called.
+#[tactic(auto, using(crate::proofs::Texts::text_laws))]
 pub fn same_early(a: &[u8], b: &[u8]) -> bool
     ensures { result ≡ same_text a.now b.now }
 {
@@ -205,12 +148,8 @@ pub fn same_early(a: &[u8], b: &[u8]) -> bool
     if n != b.len() {
         return false;
     }
-    if 8 <= n {
-        let x = words::word(a, 0);
-        let y = words::word(b, 0);
-        if x | CASE != y | CASE {
-            return false;
-        }
+    if 8 <= n && word(a, 0) | CASE != word(b, 0) | CASE {
+        return false;
     }
     same_text(a, b)
 }
@@ -219,14 +158,7 @@ pub fn same_early(a: &[u8], b: &[u8]) -> bool
 pub fn find(s: &[u8], b: u8) -> usize
     ensures { (result ≡ length (before (is b) s.now)) × (result ≤ length s.now) }
 {
-    let mut at = 0;
-    while at < s.len() {
-        if s[at] == b {
-            return at;
-        }
-        at += 1;
-    }
-    at
+    s.iter().position(|&x| x == b).unwrap_or(s.len())
 }
 
 // A text, and where its first dot stands: at its length, where it has none. A text that is held against many is searched once.
@@ -249,7 +181,7 @@ impl<'a> Dotted<'a> {
     }
 
     // Whether there is a dot.
-    #[tactic(auto, using(crate::proofs::Laws::has_is))]
+    #[tactic(auto, using(crate::proofs::Place::some_passes))]
     pub fn has_dot(&self) -> bool
         ensures value { result ≡ any (is names.dot) self.now.text.now }
         ensures place { result ≡ ltb self.now.dot (length self.now.text.now) }
@@ -283,26 +215,18 @@ impl<'a> Dotted<'a> {
 pub fn has(s: &[u8], b: u8) -> bool
     ensures { result ≡ any (is b) s.now }
 {
-    let first = find(s, b);
-    first < s.len()
+    s.contains(&b)
 }
 
 // Whether all bytes of s are digits.
 pub fn digits(s: &[u8]) -> bool
     ensures { result ≡ all digit s.now }
 {
-    let mut i = 0;
-    while i < s.len() {
-        let good = is_digit(s[i]);
-        if !good {
-            return false;
-        }
-        i += 1;
-    }
-    true
+    s.iter().all(|&b| is_digit(b))
 }
 
 // Whether every byte is below 128, many at a time.
+#[tactic(auto, using(crate::proofs::Classes::ascii_is))]
 pub fn ascii(s: &[u8]) -> bool
     ensures { result ≡ bytes.ascii s.now }
 {
@@ -310,6 +234,7 @@ pub fn ascii(s: &[u8]) -> bool
 }
 
 // The bytes from a place on.
+#[tactic(auto, using(crate::proofs::Parts::rest_is))]
 pub fn from(s: &[u8], start: usize) -> &[u8]
     requires { start ≤ length s.now }
     ensures { (result.now ≡ drop start s.now) × (length result.now ≡ length s.now - start) }
@@ -318,18 +243,16 @@ pub fn from(s: &[u8], start: usize) -> &[u8]
 }
 
 // Whether the lengths add up to the total. What is left of it is counted, so that no sum can be too large.
+#[tactic(auto, using(crate::proofs::Adding::laws))]
 pub fn sums_to(lengths: &[usize], total: usize) -> bool
     ensures { result ≡ eqb (bytes.sum lengths.now) total }
 {
     let mut left = total;
-    let mut i = 0;
-    while i < lengths.len() {
-        let n = lengths[i];
-        if left < n {
+    for &n in lengths {
+        let Some(rest) = left.checked_sub(n) else {
             return false;
-        }
-        left -= n;
-        i += 1;
+        };
+        left = rest;
     }
     left == 0
 }

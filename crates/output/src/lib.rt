@@ -5,61 +5,51 @@ ghost use Rattle.std.specs.Prelude.{◌≡◌, ◌<◌, ◌≤◌, ◌+◌, leng
 ghost use Rattle.rules.specs.Der.{element};
 ghost use Rattle.output.specs.Output.{Fits, Put, start, element_size};
 
-// A number that fits a byte.
-pub fn low(n: usize) -> u8
-    requires { n < 256 }
-    ensures { result ≡ n }
-{
-    n as u8
-}
-
 // How many bytes an element has whose content has n.
+#[tactic(auto, using(crate::proofs::Laws::laws))]
 pub fn element_size(n: usize) -> usize
     requires { n < 65536 }
     ensures { (result ≡ element_size n) × (result ≤ n + 4) }
 {
     if n < 128 {
-        return n + 2;
+        n + 2
+    } else if n < 256 {
+        n + 3
+    } else {
+        n + 4
     }
-    if n < 256 {
-        return n + 3;
-    }
-    n + 4
 }
 
 // A text.
+#[tactic(auto, using(crate::proofs::Laws::put_whole), unfolding(crate::specs::Output::Fits))]
 pub fn put_text(buffer: &mut [u8], at: usize, text: &[u8]) -> usize
     requires { Fits buffer.old at text.now }
     ensures { Put buffer.old at text.now buffer.new result }
 {
-    let mut k = 0;
-    while k < text.len() {
-        buffer[at + k] = text[k];
-        k += 1;
-    }
-    at + k
+    let end = at + text.len();
+    buffer[at..end].copy_from_slice(text);
+    end
 }
 
 // The bytes of an element before its content. "Every length is definite and shortest: one byte to 127; 81 and a byte from 128 to 255;
 // 82 and two bytes from 256."
+#[tactic(auto, using(crate::proofs::Laws::laws))]
 pub fn put_start(buffer: &mut [u8], at: usize, tag: u8, n: usize) -> usize
     requires n_bound { n < 65536 }
     requires fits { Fits buffer.old at (start tag n) }
     ensures { Put buffer.old at (start tag n) buffer.new result }
 {
     if n < 128 {
-        let bytes = [tag, low(n)];
-        return put_text(buffer, at, &bytes);
+        put_text(buffer, at, &[tag, n as u8])
+    } else if n < 256 {
+        put_text(buffer, at, &[tag, 0x81, n as u8])
+    } else {
+        put_text(buffer, at, &[tag, 0x82, (n / 256) as u8, (n % 256) as u8])
     }
-    if n < 256 {
-        let bytes = [tag, 0x81, low(n)];
-        return put_text(buffer, at, &bytes);
-    }
-    let bytes = [tag, 0x82, low(n / 256), low(n % 256)];
-    put_text(buffer, at, &bytes)
 }
 
 // An element.
+#[tactic(auto, using(crate::proofs::Laws::laws))]
 pub fn put_element(buffer: &mut [u8], at: usize, tag: u8, content: &[u8]) -> usize
     requires content_len_bound { length content.now < 65536 }
     requires fits { Fits buffer.old at (element tag content.now) }

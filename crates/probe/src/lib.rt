@@ -9,9 +9,5 @@ ghost use Rattle.rules.specs.Names.{same_text};
 pub fn probe_same_text(a: &[u8], b: &[u8]) -> u32
     ensures { result ≡ cond (same_text a.now b.now) 1 0 }
 {
-    let same = octets::same_text(a, b);
-    if same {
-        return 1;
-    }
-    0
+    u32::from(octets::same_text(a, b))
 }

@@ -1,4 +1,3 @@
 pub mod Blank
-pub mod Listing
-pub mod Putting
+pub mod Two
 pub mod Laws

@@ -1,108 +1,96 @@
--- The reference at an index, by its bytes.
+-- Good records: their texts fit, and what they say is a good reference.
 use Prim.Native.Nat.{ℕ, ◌+◌, ◌-◌, ◌*◌, ◌/◌, ◌%◌, ◌≤◌, ◌<◌}
 use mathlib.Core.Path.{◌≡◌, sym, ap, ◌∙◌}
-use mathlib.Core.Bool.{true, ◌&&◌, true≢false}
+use mathlib.Core.Bool.{Bool, true, ◌&&◌, true≢false}
 use mathlib.Core.List.{List, [], ◌∷◌}
 use native.Mathlib.Omega.{arith}
-use native.Mathlib.Nat.{add-zero}
-use lib.ListN.{length, get_or, take, drop, length-take}
-use lib.Seq.{drop-drop, take-take}
-use lib.Dec.{T, eqb, leb, leb→le}
-use borrow.Author.Tests.{eqb-true}
-use Rattle.octets.proofs.Parts.{take_of_drop}
-use Rattle.rules.proofs.Cases.{is_true, and_parts, and_left, and_right}
+use lib.ListN.{length, get_or, take, drop, length-take, length-drop}
+use lib.Dec.{eqb, leb}
+use borrow.Author.Tests.{eqb-true, leb-true, eq-eqb}
+use Rattle.std.specs.Prelude.{Result, Ok, Err}
+use Rattle.std.proofs.lemmas.Bool.Decides.{nat_tests}
+use Rattle.rules.proofs.Cases.{is_true, holds, and_left, and_right}
 use Rattle.rules.specs.Bytes.{part, some?, all}
-use Rattle.rules.specs.Numbers.{record_size, service_length_at, domain_length_at, service_at, service_size, domain_at, domain_size}
-use Rattle.rules.specs.Records.{reference, reference_of, filled, good_reference, good_record, records_of, good_records}
+use Rattle.rules.specs.Numbers.{record_size, service_length_at, domain_length_at, service_at, service_size, domain_at, domain_size, kind_of, kind_number}
+use Rattle.rules.specs.Records.{Reference, reference, reference_of, filled, good_service, good_reference, good_record, records_of, good_records}
+use Rattle.rules.specs.declared.Kind.{Kind}
+use Rattle.rules.specs.declared.UnknownKind.{UnknownKind}
 use Rattle.records.specs.References.{reference_at}
-use Rattle.records.proofs.Split.{count_is, record_at, each_good, byte_at}
+use Rattle.records.proofs.Split.{count_is, record_at, each_good}
 
-module _ (b : List ℕ) (i : ℕ) (h : i < length b / record_size) where
-  abbrev rec : List ℕ
-  rec = part b (i * record_size) record_size
+-- a text that fits its field is no longer than it
+pub filled_fits : (l : List ℕ) (most n : ℕ) → filled (take most l) n ≡ true → n ≤ most
+unfolding filled
+filled_fits l most n e = omega (arith, leb-true n (length (take most l)) (and_left (leb n (length (take most l))) _ e), length-take most l)
 
-  room : i * record_size + record_size ≤ length b
-  room = omega arith
+-- a byte that is a kind's number
+pub is_number : (n : ℕ) (kind : Kind) → Ok kind ≡ kind_of n → n ≡ kind_number kind
+is_number n kind e = grind (arith, nat_tests)
 
-  -- byte 0 of the record is one of the records' bytes
-  pub kind_room : i * record_size < length b
-  kind_room = omega (arith, room)
+-- a number that is no kind's is none of a good reference
+pub no_kind : (r : Reference) (e : UnknownKind) → Err e ≡ kind_of r.kind → good_reference r ≡ true → ⊥
+unfolding good_reference good_service
+no_kind r e h g = grind (arith, nat_tests)
 
-  -- and it is the kind
-  pub kind_is : get_or b (i * record_size) 0 ≡ (reference_at b i).kind
-  unfolding reference_at reference_of
-  kind_is = sym (byte_at b (i * record_size) 0 (omega arith) ∙ rw (add-zero (i * record_size)))
+module _ (r : List ℕ) (g : good_record r ≡ true) where
+  before : (eqb (get_or r 1 0) 0 && filled (part r service_at service_size) (get_or r service_length_at 0) && filled (part r domain_at domain_size) (get_or r domain_length_at 0)) ≡ true
+  unfolding good_record
+  before = and_left _ (good_reference (reference_of r)) g
 
-  -- a part of the record is a part of the records
-  within : (p n : ℕ) → p + n ≤ record_size → part rec p n ≡ part b (i * record_size + p) n
+  pub service_fits : get_or r service_length_at 0 ≤ service_size
   unfolding part
-  within p n k =
-      take_of_drop n p (take record_size (drop (i * record_size) b))
-      ∙ ap (drop p) (take-take (p + n) record_size (drop (i * record_size) b) k)
-      ∙ sym (take_of_drop n p (drop (i * record_size) b))
-      ∙ ap (take n) (drop-drop p (i * record_size) b)
+  service_fits =
+      filled_fits (drop service_at r) service_size (get_or r service_length_at 0)
+      (and_right (eqb (get_or r 1 0) 0) _ (and_left _ (filled (part r domain_at domain_size) (get_or r domain_length_at 0)) before))
 
-  module _ (g : good_records b ≡ true) where
-    record_good : T (good_record rec)
-    unfolding good_records
-    record_good =
-        let k : T (good_records b) = rw g tt in
-        let p = and_parts (some? b && eqb (length b % record_size) 0) (all good_record (records_of b)) k in
-        rw (record_at b i h) at (each_good (records_of b) i p.1 (omega (arith, count_is b)))
+  pub domain_fits : get_or r domain_length_at 0 ≤ domain_size
+  unfolding part
+  domain_fits = filled_fits (drop domain_at r) domain_size (get_or r domain_length_at 0) (and_right (eqb (get_or r 1 0) 0 && filled (part r service_at service_size) (get_or r service_length_at 0)) _ before)
 
-    parts : T (filled (part rec service_at service_size) (get_or rec service_length_at 0)) × (T (filled (part rec domain_at domain_size) (get_or rec domain_length_at 0)) × T (good_reference (reference_of rec)))
-    unfolding good_record
-    parts =
-        let p = and_parts (eqb (get_or rec 1 0) 0 && filled (part rec service_at service_size) (get_or rec service_length_at 0) && filled (part rec domain_at domain_size) (get_or rec domain_length_at 0)) _ record_good in
-        let q = and_parts (eqb (get_or rec 1 0) 0 && filled (part rec service_at service_size) (get_or rec service_length_at 0)) _ p.0 in
-        let r = and_parts (eqb (get_or rec 1 0) 0) _ q.0 in
-        (r.1, (q.1, p.1))
+  pub record_says : good_reference (reference_of r) ≡ true
+  unfolding good_record
+  record_says = and_right (eqb (get_or r 1 0) 0 && filled (part r service_at service_size) (get_or r service_length_at 0) && filled (part r domain_at domain_size) (get_or r domain_length_at 0)) _ g
 
-    fits : (at k n : ℕ) → T (filled (part rec at k) n) → n ≤ k
-    unfolding filled part
-    fits at k n t =
-        let w = leb→le n (length (take k (drop at rec))) (and_parts (leb n (length (take k (drop at rec)))) _ t).0 in
-        omega (arith, length-take k (drop at rec))
+-- a record whose fields are filled is good just where what it says is good
+pub record_reference : (r s d : List ℕ) (t : Bool) → get_or r 1 0 ≡ 0 → filled (take service_size (drop service_at r)) (get_or r service_length_at 0) ≡ true → filled (take domain_size (drop domain_at r)) (get_or r domain_length_at 0) ≡ true
+    → s ≡ (reference_of r).service → d ≡ (reference_of r).domain → t ≡ good_reference (reference (get_or r 0 0) s d) → t ≡ good_record r
+unfolding good_record part reference_of
+record_reference r s d t zero f g v w e = e ∙ rw (v, w) (simp (eq-eqb (get_or r 1 0) 0 zero, f, g))
 
-    module _ (n : ℕ) (n_is : n ≡ get_or b (i * record_size + service_length_at) 0) where
-      service_long : n ≡ get_or rec service_length_at 0
-      service_long = n_is ∙ sym (byte_at b (i * record_size) service_length_at (omega arith))
+-- a record of records is whole, and one of good records is good
+module _ (b : List ℕ) (i : ℕ) (h : i < length b / record_size) where
+  pub record_room : i * record_size + record_size ≤ length b
+  record_room = omega arith
 
-      -- the service ends within the records
-      pub service_end : i * record_size + service_at + n ≤ length b
-      service_end = omega (arith, room, service_long, fits service_at service_size (get_or rec service_length_at 0) parts.0)
+  pub cancel : i * record_size + record_size - i * record_size ≡ record_size
+  cancel = omega arith
 
-      -- the service is the part that the code takes
-      pub service_is_lem : take (i * record_size + service_at + n - (i * record_size + service_at)) (drop (i * record_size + service_at) b) ≡ (reference_at b i).service
-      unfolding reference_at reference_of part
-      service_is_lem =
-          let m : i * record_size + service_at + n - (i * record_size + service_at) ≡ n = omega arith in
-          rw (m, ← service_long) (sym (within service_at n (omega (arith, service_long, fits service_at service_size (get_or rec service_length_at 0) parts.0))))
+  pub record_good : good_records b ≡ true → good_record (take record_size (drop (i * record_size) b)) ≡ true
+  unfolding good_records part
+  record_good g =
+      is_true _ (rw (record_at b i h) at (each_good (records_of b) i (holds (all good_record (records_of b)) (and_right (some? b && eqb (length b % record_size) 0) _ g)) (omega (arith, count_is b))))
 
-    module _ (n : ℕ) (n_is : n ≡ get_or b (i * record_size + domain_length_at) 0) where
-      domain_long : n ≡ get_or rec domain_length_at 0
-      domain_long = n_is ∙ sym (byte_at b (i * record_size) domain_length_at (omega arith))
+  -- what is read of a record is the reference, which is good
+  pub parts_are : (r : List ℕ) → r ≡ part b (i * record_size) record_size → (o : Result Kind UnknownKind) → o ≡ kind_of (get_or r 0 0) → (kind : Kind) → o ≡ Ok kind
+      → (s d : List ℕ) → s ≡ (reference_of r).service → d ≡ (reference_of r).domain → reference (kind_number kind) s d ≡ reference_at b i
+  unfolding reference_at reference_of
+  parts_are r r_is o o_is kind k s d s_is d_is =
+      let e : get_or r 0 0 ≡ kind_number kind = is_number (get_or r 0 0) kind (sym k ∙ o_is) in
+      let f : reference (kind_number kind) s d ≡ reference (get_or r 0 0) (reference_of r).service (reference_of r).domain = rw (e, s_is, d_is) in
+      f ∙ rw r_is
 
-      -- the domain ends within the records
-      pub domain_end : i * record_size + domain_at + n ≤ length b
-      domain_end = omega (arith, room, domain_long, fits domain_at domain_size (get_or rec domain_length_at 0) parts.1.0)
+  pub at_good : good_records b ≡ true → good_reference (reference_at b i) ≡ true
+  unfolding reference_at part
+  at_good g = record_says (take record_size (drop (i * record_size) b)) (record_good g)
 
-      -- the domain is the part that the code takes
-      pub domain_is : take (i * record_size + domain_at + n - (i * record_size + domain_at)) (drop (i * record_size + domain_at) b) ≡ (reference_at b i).domain
-      unfolding reference_at reference_of part
-      domain_is =
-          let m : i * record_size + domain_at + n - (i * record_size + domain_at) ≡ n = omega arith in
-          rw (m, ← domain_long) (sym (within domain_at n (omega (arith, domain_long, fits domain_at domain_size (get_or rec domain_length_at 0) parts.1.0))))
+  -- what is taken of a reference is the reference, and it is good
+  module _ (g : good_records b ≡ true) (kind : ℕ) (kind_is : kind ≡ (reference_at b i).kind) (v : List ℕ) (v_is : v ≡ (reference_at b i).service)
+      (d : List ℕ) (d_is : d ≡ (reference_at b i).domain) where
+    pub reference_is : reference_at b i ≡ reference kind v d
+    reference_is = sym (λ k. record { kind = kind_is k; service = v_is k; domain = d_is k })
 
-    -- what is taken of a reference is the reference, and it is good
-    module _ (kind : ℕ) (kind_is : kind ≡ (reference_at b i).kind) (v : List ℕ) (v_is : v ≡ (reference_at b i).service)
-        (d : List ℕ) (d_is : d ≡ (reference_at b i).domain) where
-      pub reference_is : reference_at b i ≡ reference kind v d
-      reference_is = sym (λ k. record { kind = kind_is k; service = v_is k; domain = d_is k })
-
-      pub reference_good : good_reference (reference kind v d) ≡ true
-      unfolding reference_at
-      reference_good = ap good_reference (sym reference_is) ∙ is_true (good_reference (reference_of rec)) parts.1.1
+    pub reference_good : good_reference (reference kind v d) ≡ true
+    reference_good = ap good_reference (sym reference_is) ∙ at_good g
 
 -- good records have a first
 pub some_record : (b : List ℕ) → good_records b ≡ true → 1 ≤ length b / record_size

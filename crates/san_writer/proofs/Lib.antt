@@ -1,4 +1,2 @@
-pub mod Listing
-pub mod Measuring
 pub mod Putting
 pub mod Laws

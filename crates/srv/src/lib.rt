@@ -1,65 +1,56 @@
 // SRV-IDs, what they match, and the SRVName restrictions of name constraints.
 #![tactic(auto)]
 
-ghost use Rattle.std.specs.Prelude.{◌≡◌, true, false, [], ◌∷◌, ◌<◌, ◌≤◌, length};
-ghost use Rattle.rules.specs.Bytes.{any, before, begins};
+ghost use Rattle.std.specs.Prelude.{◌≡◌, true, false, [], ◌∷◌, ◌<◌, length, drop, MatchOption};
+ghost use Rattle.rules.specs.Bytes.{any, begins};
 ghost use Rattle.rules.specs.Names.{dot, is, underscore, same_text, service_of, srv_id, srv_matches, in_subtree};
 ghost use Rattle.rules.specs.Names as rules;
 ghost use Rattle.srv.specs.Parts.{srv_parts, parts_match};
 
-// Whether a text begins with an underscore.
-fn underscored(s: &[u8]) -> bool
-    ensures { result ≡ begins (underscore ∷ []) s.now }
+use octets::Dotted;
+
+// What stands past the underscore that a text begins with.
+fn past_underscore(s: &[u8]) -> Option<&[u8]>
+    ensures { MatchOption result (begins (underscore ∷ []) s.now ≡ false) (λ rest. (begins (underscore ∷ []) s.now ≡ true) × (rest.now ≡ drop 1 s.now)) }
 {
-    if s.len() == 0 {
-        return false;
+    match s {
+        [b'_', rest @ ..] => Some(rest),
+        _ => None,
     }
-    s[0] == 0x5F
 }
 
-// Whether a service, a dot and a domain follow the underscore; the first dot stands at n, or there is none.
-fn parts(rest: &[u8], n: usize) -> bool
-    requires { (n ≡ length (before (is dot) rest.now)) × (n ≤ length rest.now) }
-    ensures { result ≡ srv_parts rest.now }
+// Whether a service, a dot and a domain follow the underscore.
+#[tactic(auto, using(crate::proofs::Prefixed::domain_none), unfolding(crate::specs::Parts::srv_parts))]
+fn parts(rest: Dotted<'_>) -> bool
+    ensures { result ≡ srv_parts rest.entry.text.now }
 {
-    let good = names::service(&rest[..n]);
-    if good {
-        if n == rest.len() {
-            return false;
-        }
-        let domain = octets::from(rest, n + 1);
-        return names::domain(domain);
-    }
-    false
+    names::service(rest.first_label()) && rest.past_dot().is_some_and(names::domain)
 }
 
 // "SRV-ID: "_", a service .., ".", a domain without wildcard."
+#[tactic(auto, using(crate::proofs::Prefixed::srv_bare, crate::proofs::Prefixed::srv_underscored))]
 pub fn srv_id(s: &[u8]) -> bool
     ensures { result ≡ srv_id s.now }
 {
-    let underscore = underscored(s);
-    if underscore {
-        let rest = octets::from(s, 1);
-        let n = octets::find(rest, 0x2E);
-        return parts(rest, n);
-    }
-    false
+    past_underscore(s).is_some_and(|rest| parts(Dotted::new(rest)))
 }
 
 // "An SRVName here has one of three texts: `_service`, `_service.domain`, `domain`."
+#[tactic(auto, using(crate::proofs::Prefixed::restriction_bare, crate::proofs::Prefixed::restriction_service, crate::proofs::Prefixed::restriction_parts))]
 pub fn restriction(s: &[u8]) -> bool
     ensures { result ≡ rules.restriction s.now }
 {
-    let underscore = underscored(s);
-    if underscore {
-        let rest = octets::from(s, 1);
-        let at = octets::find(rest, 0x2E);
-        if at == rest.len() {
-            return names::service(rest);
+    match past_underscore(s) {
+        Some(rest) => {
+            let rest = Dotted::new(rest);
+            if rest.has_dot() {
+                parts(rest)
+            } else {
+                names::service(rest.text)
+            }
         }
-        return parts(rest, at);
+        None => names::domain(s),
     }
-    names::domain(s)
 }
 
 // Whether what follows the underscore is the service and the domain of a reference, with the dot in the place that the service leaves. A
@@ -71,15 +62,9 @@ fn parts_match(service: &[u8], domain: &[u8], rest: &[u8]) -> bool
     ensures { result ≡ parts_match service.now domain.now rest.now }
 {
     let n = service.len();
-    if rest[n] != 0x2E {
-        return false;
-    }
-    let same = octets::same_text(&rest[..n], service);
-    if !same {
-        return false;
-    }
-    let end = octets::from(rest, n + 1);
-    octets::same_text(end, domain)
+    rest[n] == b'.'
+        && octets::same_text(&rest[..n], service)
+        && octets::same_text(&rest[n + 1..], domain)
 }
 
 // "Service or scheme and domain must both match, without case": of a reference whose service and domain are good. Lengths come first.
@@ -89,31 +74,18 @@ pub fn service_matches(service: &[u8], domain: &[u8], text: &[u8]) -> bool
     ensures { result ≡ srv_matches service.now domain.now text.now }
 {
     let n = service.len() + 2;
-    if text.len() < n {
-        return false;
-    }
-    if text.len() - n != domain.len() {
-        return false;
-    }
-    if text[0] != 0x5F {
-        return false;
-    }
-    parts_match(service, domain, octets::from(text, 1))
+    n <= text.len()
+        && text.len() - n == domain.len()
+        && text[0] == b'_'
+        && parts_match(service, domain, &text[1..])
 }
 
 // The same of any reference: one whose service or domain is not good matches nothing.
+#[tactic(auto, using(crate::proofs::Match::match_no_service, crate::proofs::Match::match_no_domain))]
 pub fn srv_matches(service: &[u8], domain: &[u8], text: &[u8]) -> bool
     ensures { result ≡ srv_matches service.now domain.now text.now }
 {
-    let good_service = names::service(service);
-    if !good_service {
-        return false;
-    }
-    let good_domain = names::domain(domain);
-    if !good_domain {
-        return false;
-    }
-    service_matches(service, domain, text)
+    names::service(service) && names::domain(domain) && service_matches(service, domain, text)
 }
 
 // Whether a service without a dot is the one that an SRVName gives.
@@ -122,47 +94,31 @@ fn service_is(service: &[u8], name: &[u8]) -> bool
     ensures { result ≡ same_text service.now (service_of name.now) }
 {
     let n = service.len();
-    if name.len() == 0 {
+    let Some((_, rest)) = name.split_first() else {
         return n == 0;
-    }
-    let rest = octets::from(name, 1);
-    if rest.len() < n {
-        return false;
-    }
-    let same = octets::same_text(service, &rest[..n]);
-    if same {
-        if rest.len() == n {
-            return true;
-        }
-        return rest[n] == 0x2E;
-    }
-    false
+    };
+    n <= rest.len()
+        && octets::same_text(service, &rest[..n])
+        && (rest.len() == n || rest[n] == b'.')
 }
 
 // "It lies in a subtree if the service is equal, without case, where one is given, and the subtree's labels are the last
-// labels of its domain where a domain is given." The name is an SRV-ID, and its first dot stands at `first`: a subtree with its service
-// has its own first dot there, or ends there. The domain is compared first, as it differs more often.
-pub fn in_subtree(subtree: &[u8], name: &[u8], first: usize) -> bool
-    requires name_value { srv_id name.now ≡ true }
-    requires first_value { (first ≡ length (before (is dot) name.now)) × (first ≤ length name.now) }
-    ensures { result ≡ in_subtree subtree.now name.now }
+// labels of its domain where a domain is given." The name is an SRV-ID: a subtree with its service has its own first dot where the name
+// has it, or ends there. The domain is compared first, as it differs more often.
+pub fn in_subtree(subtree: &[u8], name: Dotted<'_>) -> bool
+    requires { srv_id name.text.now ≡ true }
+    ensures { result ≡ in_subtree subtree.now name.entry.text.now }
 {
-    let domain = octets::from(name, first + 1);
-    let underscore = underscored(subtree);
-    if !underscore {
+    let first = name.dot;
+    let domain = &name.text[first + 1..];
+    if past_underscore(subtree).is_none() {
         return names::domain_within(subtree, domain);
     }
-    let service = &name[1..first];
+    let service = &name.text[1..first];
     if subtree.len() <= first {
         return service_is(service, subtree);
     }
-    if subtree[first] != 0x2E {
-        return false;
-    }
-    let end = octets::from(subtree, first + 1);
-    let within = names::domain_within(end, domain);
-    if !within {
-        return false;
-    }
-    service_is(service, subtree)
+    subtree[first] == b'.'
+        && names::domain_within(&subtree[first + 1..], domain)
+        && service_is(service, subtree)
 }

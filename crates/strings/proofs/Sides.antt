@@ -18,15 +18,16 @@ use Rattle.reading.specs.Strings.{flat, read_subtree, read_side, rising, read_si
 use Rattle.reading.specs.Answers.{and_parts}
 use Rattle.reading.proofs.Runs.{items_end, items_some, items_size}
 use Rattle.reading.proofs.Codecs.{side_c}
-use Rattle.der.specs.Places.{element_at, tagged_at, found?}
+use Rattle.std.specs.Prelude.{Ok, Err, IsErr}
+use Rattle.der.specs.Places.{Answer, element_at}
 use Rattle.der.specs.Reads.{Read}
 use Rattle.der.specs.declared.Element.{Element}
-use Rattle.der.specs.declared.Element.TheVariants.{Found}
-use Rattle.strings.specs.Counts.{place_count, total, place_total, members_of, side_at, sides_at, tally, run_on, sides_on}
+use Rattle.der.specs.declared.ElementError.{ElementError}
+use Rattle.entries.specs.declared.Unreadable.{Unreadable}
+use Rattle.entries.proofs.Others.{unread}
+use Rattle.strings.specs.Counts.{Count, unreadable, content_at, place_count, total, place_total, members_of, side_at, sides_at, tally, run_on, sides_on}
 use Rattle.strings.specs.Runs.{run_end, run_refused, run_none, run_unfit, run_next}
-use Rattle.strings.specs.declared.Count.{Count}
-use Rattle.strings.specs.declared.Count.TheVariants.{Of, Unreadable}
-use Rattle.strings.proofs.Counting.{did, count_none, count_some, outer_none, outer_open, outer_found}
+use Rattle.strings.proofs.Counting.{did, count_none, count_some, outer_none, outer_found}
 
 abbrev Side : Type 0
 Side = Group GeneralName
@@ -58,21 +59,21 @@ above_none : (gs : List Side) → above 0xA0 gs ≡ chain rising gs
 above_none [] = refl
 above_none (g ∷ gs) = rw (le-leb 0xA0 (0xA0 + g.number) (omega arith)) (above_one g gs)
 
-tally_above : (low k : ℕ) (l : List Side) → tally members_of fits_side after_side low k l ≡ cond (above low l) (Of (k + total members_of l)) Unreadable
+tally_above : (low k : ℕ) (l : List Side) → tally members_of fits_side after_side low k l ≡ cond (above low l) (Ok (k + total members_of l)) unreadable
 unfolding tally total
-tally_above low k [] = ap Of (omega arith)
+tally_above low k [] = ap {B = Count} Ok (omega arith)
 tally_above low k (g ∷ l) = go (fits_side low g) (tally_above (after_side g) (k + members_of g) l)
   where
     n : k + members_of g + total members_of l ≡ k + (members_of g + total members_of l)
     n = omega arith
 
-    go : (t : Bool) → tally members_of fits_side after_side (after_side g) (k + members_of g) l ≡ cond (above (after_side g) l) (Of (k + members_of g + total members_of l)) Unreadable
-        → cond t (tally members_of fits_side after_side (after_side g) (k + members_of g) l) Unreadable
-        ≡ cond (t && above (after_side g) l) (Of (k + (members_of g + total members_of l))) Unreadable
+    go : (t : Bool) → tally members_of fits_side after_side (after_side g) (k + members_of g) l ≡ cond (above (after_side g) l) (Ok (k + members_of g + total members_of l)) unreadable
+        → cond t (tally members_of fits_side after_side (after_side g) (k + members_of g) l) unreadable
+        ≡ cond (t && above (after_side g) l) (Ok (k + (members_of g + total members_of l))) unreadable
     go true ih = rw (ih, n)
     go false ih = refl
 
-total_when : (t : Bool) (l : List Side) → place_total members_of (when t (some l)) ≡ cond t (Of (total members_of l)) Unreadable
+total_when : (t : Bool) (l : List Side) → place_total members_of (when t (some l)) ≡ cond t (Ok (total members_of l)) unreadable
 unfolding place_total
 total_when true l = refl
 total_when false l = refl
@@ -86,7 +87,7 @@ sides_begin (some (g ∷ l)) e =
     let n : 0 + total members_of (g ∷ l) ≡ total members_of (g ∷ l) = omega arith in
     total_when (chain rising (g ∷ l)) (g ∷ l) ∙ sym (tally_above 0xA0 0 (g ∷ l) ∙ rw (above_none (g ∷ l), n))
 
-pub sides_empty : (s : List ℕ) (from end : ℕ) → from ≡ end → Unreadable ≡ sides_at s from end
+pub sides_empty : (s : List ℕ) (from end : ℕ) → from ≡ end → unreadable ≡ sides_at s from end
 unfolding sides_at place_total
 sides_empty s from end e = rw (e, slice_empty end s, items_end read_side)
 
@@ -133,70 +134,70 @@ side_no_bytes t = rw (items_end read_subtree) (go (leb 0xA0 t))
     go false = refl
 
 module _ (s : List ℕ) (all : Count) (low k at end : ℕ) (inv : all ≡ sides_on s low k at end) (h : at ≤ end) (fits : end ≤ length s) where
-  pub sides_end : end ≤ at → Of k ≡ all
+  pub sides_end : end ≤ at → Ok k ≡ all
   unfolding sides_on
   sides_end u = sym (inv ∙ run_end read_side members_of fits_side after_side s end fits low k at h u)
 
-  module _ (u : at < end) (e : Element) (e_is : e ≡ element_at s at end) where
-    pub sides_refused : found? e ≡ false → Unreadable ≡ all
+  module _ (u : at < end) (e : Answer) (e_is : e ≡ element_at s at end) where
+    pub sides_refused : (why : ElementError) → e ≡ Err why → (r : Count) → IsErr r → r ≡ all
     unfolding sides_on
-    sides_refused q = sym (inv ∙ run_refused read_side members_of fits_side after_side s end fits low k at u (rw e_is at q))
+    sides_refused why q r err = unread r err ∙ sym (inv ∙ run_refused read_side members_of fits_side after_side s end fits low k at u (rw (← e_is, q)))
 
-    module _ (t b n : ℕ) (found : e ≡ Found t b n) where
-      read : Read s at end t b n
-      read = did s at end h fits e e_is t b n found
+    module _ (x : Element) (found : e ≡ Ok x) where
+      read : Read s at end x.tag x.start x.next
+      read = did s at end h fits e e_is x found
 
-      no_side : read_side (raw t (slice b n s)) ≡ none → Unreadable ≡ all
+      no_side : read_side (raw x.tag (slice x.start x.next s)) ≡ none → unreadable ≡ all
       unfolding sides_on
-      no_side q = sym (inv ∙ run_none read_side members_of fits_side after_side s end fits low k at t b n read q)
+      no_side q = sym (inv ∙ run_none read_side members_of fits_side after_side s end fits low k at x.tag x.start x.next read q)
 
-      pub sides_low : t < low → Unreadable ≡ all
+      pub sides_low : x.tag < low → unreadable ≡ all
       unfolding sides_on
-      sides_low v = go (read_side (raw t (slice b n s))) refl
+      sides_low v = go (read_side (raw x.tag (slice x.start x.next s))) refl
         where
-          go : (o : Option Side) → read_side (raw t (slice b n s)) ≡ o → Unreadable ≡ all
+          go : (o : Option Side) → read_side (raw x.tag (slice x.start x.next s)) ≡ o → unreadable ≡ all
           go none f = no_side f
           go (some g) f =
-              let w = (side_number t (slice b n s) g f).0 in
-              sym (inv ∙ run_unfit read_side members_of fits_side after_side s end fits low k at t b n read g f (lt-leb low (0xA0 + g.number) (omega arith)))
+              let w = (side_number x.tag (slice x.start x.next s) g f).0 in
+              sym (inv ∙ run_unfit read_side members_of fits_side after_side s end fits low k at x.tag x.start x.next read g f (lt-leb low (0xA0 + g.number) (omega arith)))
 
-      pub sides_high : 0xA1 < t → Unreadable ≡ all
-      sides_high v = go (read_side (raw t (slice b n s))) refl
+      pub sides_high : 0xA1 < x.tag → unreadable ≡ all
+      sides_high v = go (read_side (raw x.tag (slice x.start x.next s))) refl
         where
-          go : (o : Option Side) → read_side (raw t (slice b n s)) ≡ o → Unreadable ≡ all
+          go : (o : Option Side) → read_side (raw x.tag (slice x.start x.next s)) ≡ o → unreadable ≡ all
           go none f = no_side f
           go (some g) f =
-              let w = side_number t (slice b n s) g f in
+              let w = side_number x.tag (slice x.start x.next s) g f in
               absurd (omega arith)
 
-      pub sides_none : b ≡ n → Unreadable ≡ all
-      sides_none v = no_side (rw (v, slice_empty n s) (side_no_bytes t))
+      pub sides_none : x.start ≡ x.next → unreadable ≡ all
+      sides_none v = no_side (rw (v, slice_empty x.next s) (side_no_bytes x.tag))
 
-      module _ (c : Count) (c_is : c ≡ side_at s b n) where
-        pub sides_bad : c ≡ Unreadable → Unreadable ≡ all
+      module _ (c : Count) (c_is : c ≡ side_at s x.start x.next) where
+        pub sides_bad : (why : Unreadable) → c ≡ Err why → (r : Count) → IsErr r → r ≡ all
         unfolding side_at
-        sides_bad q = no_side (side_none t (slice b n s) (count_none (items read_subtree (slice b n s)) (sym c_is ∙ q)))
+        sides_bad why q r err = unread r err ∙ no_side (side_none x.tag (slice x.start x.next s) (count_none (items read_subtree (slice x.start x.next s)) why (sym c_is ∙ q)))
 
-        module _ (m : ℕ) (of : c ≡ Of m) where
-          side_size : m ≤ n - b
+        module _ (m : ℕ) (of : c ≡ Ok m) where
+          side_size : m ≤ x.next - x.start
           unfolding side_at
           side_size =
-              count_some (items read_subtree (slice b n s)) m (sym c_is ∙ of) λ l p q.
-              omega (arith, items_size read_subtree (slice b n s) p, length-slice b n s (omega (arith, read.rest)))
+              count_some (items read_subtree (slice x.start x.next s)) m (sym c_is ∙ of) λ l p q.
+              omega (arith, items_size read_subtree (slice x.start x.next s) p, length-slice x.start x.next s (omega (arith, read.rest)))
 
-          pub sides_count : k ≤ at → k + m ≤ n
+          pub sides_count : k ≤ at → k + m ≤ x.next
           sides_count w = omega (arith, side_size, read.head, read.body)
 
           pub sides_sum : k ≤ at → length s < 2 ^ 64 → k + m < 2 ^ 64
           sides_sum w z = omega (arith, sides_count w, read.rest)
 
-          pub sides_next : 0xA0 ≤ low → low ≤ t → t ≤ 0xA1 → (b ≡ n → ⊥) → all ≡ sides_on s (t + 1) (k + m) n end
+          pub sides_next : 0xA0 ≤ low → low ≤ x.tag → x.tag ≤ 0xA1 → (x.start ≡ x.next → ⊥) → all ≡ sides_on s (x.tag + 1) (k + m) x.next end
           unfolding sides_on side_at
           sides_next a v w ne =
-              count_some (items read_subtree (slice b n s)) m (sym c_is ∙ of) λ l p q.
-              let f = side_reads t (slice b n s) l (omega arith) w (omega (arith, read.body, length-slice b n s (omega (arith, read.rest)))) p in
-              let y : 0xA0 + (t - 0xA0) ≡ t = omega arith in
-              inv ∙ run_next read_side members_of fits_side after_side s end fits low k at t b n read (record { number = t - 0xA0; members = l }) f (le-leb low (0xA0 + (t - 0xA0)) (omega arith)) ∙ rw (q, y)
+              count_some (items read_subtree (slice x.start x.next s)) m (sym c_is ∙ of) λ l p q.
+              let f = side_reads x.tag (slice x.start x.next s) l (omega arith) w (omega (arith, read.body, length-slice x.start x.next s (omega (arith, read.rest)))) p in
+              let y : 0xA0 + (x.tag - 0xA0) ≡ x.tag = omega arith in
+              inv ∙ run_next read_side members_of fits_side after_side s end fits low k at x.tag x.start x.next read (record { number = x.tag - 0xA0; members = l }) f (le-leb low (0xA0 + (x.tag - 0xA0)) (omega arith)) ∙ rw (q, y)
 
 -- ---- the outermost element
 
@@ -208,21 +209,16 @@ flat_length (g ∷ l) = simp (length-append, flat_length l) (rw (length-map {B =
 sides_total : (o : Option (List Side)) → place_total members_of o ≡ place_count (then o (λ gs. some (flat gs)))
 unfolding place_total place_count
 sides_total none = refl
-sides_total (some l) = ap Of (sym (flat_length l))
+sides_total (some l) = ap {B = Count} Ok (sym (flat_length l))
 
 abbrev sides_in : List ℕ → Option (List Side)
 sides_in = also (λ l. some? l && chain rising l) (items read_side)
 
-module _ (s : List ℕ) (e : Element) (e_is : e ≡ tagged_at s 0 (length s) 0x30) where
-  pub constraints_none : found? e ≡ false → Unreadable ≡ place_count (read_constraints s)
+module _ (s : List ℕ) (c : Count) (c_is : c ≡ content_at s) where
+  pub constraints_none : (why : Unreadable) → c ≡ Err why → (r : Count) → IsErr r → r ≡ place_count (read_constraints s)
   unfolding read_constraints read_sides place_count
-  constraints_none q = rw (outer_none sides_in s e e_is q)
+  constraints_none why q r err = unread r err ∙ rw (outer_none s c c_is sides_in why q)
 
-  module _ (t b n : ℕ) (found : e ≡ Found t b n) where
-    pub constraints_open : (n ≡ length s → ⊥) → Unreadable ≡ place_count (read_constraints s)
-    unfolding read_constraints read_sides place_count
-    constraints_open q = rw (outer_open sides_in s e e_is t b n found q)
-
-    pub constraints_sides : n ≡ length s → (r : Count) → r ≡ sides_at s b (length s) → r ≡ place_count (read_constraints s)
-    unfolding read_constraints read_sides sides_at
-    constraints_sides q r r_is = r_is ∙ rw (outer_found sides_in s e e_is t b n found q) (sides_total (sides_in (slice b (length s) s)))
+  pub constraints_sides : (b : ℕ) → c ≡ Ok b → (r : Count) → r ≡ sides_at s b (length s) → r ≡ place_count (read_constraints s)
+  unfolding read_constraints read_sides sides_at
+  constraints_sides b found r r_is = r_is ∙ rw (outer_found s c c_is b found sides_in) (sides_total (sides_in (slice b (length s) s)))

@@ -1,5 +1,5 @@
 -- How many names are read, and how a loop counts them.
-use Rattle.std.specs.Prelude.{ℕ, ◌+◌, List, [], ◌∷◌, Bool, true, cond, ◌&&◌, leb, length}
+use Rattle.std.specs.Prelude.{ℕ, ◌+◌, List, [], ◌∷◌, Bool, true, cond, ◌&&◌, eqb, leb, length}
 use Rattle.std.proofs.Math.Option.{Option, none, some}
 use Rattle.std.proofs.Math.Seq.{slice}
 use Rattle.rules.specs.Bytes.{some?, chain, up_to}
@@ -7,13 +7,21 @@ use Rattle.rules.specs.Der.{Group}
 use Rattle.rules.specs.Subject.{write_attribute}
 use Rattle.reading.specs.Reader.{also, items}
 use Rattle.reading.specs.Strings.{read_name, read_attribute, in_order, read_set, read_subtree, read_side, rising}
-use Rattle.strings.specs.declared.Count.{Count}
-use Rattle.strings.specs.declared.Count.TheVariants.{Of, Unreadable}
+use Rattle.std.specs.Prelude.{Result, Ok, Err}
+use Rattle.der.specs.Places.{Answer, tagged_at}
+use Rattle.entries.specs.declared.Unreadable.{Unreadable}
+
+-- how many names are read, where what they stand in is readable
+abbrev pub Count : Type 0
+Count = Result ℕ Unreadable
+
+abbrev pub unreadable : Count
+unreadable = Err (record {})
 
 -- the number of names of a list that is read
 unfoldable pub place_count : {A : Type 0} → Option (List A) → Count
-place_count none = Unreadable
-place_count (some l) = Of (length l)
+place_count none = unreadable
+place_count (some l) = Ok (length l)
 
 -- the number of names in groups that are read
 unfoldable pub total : {A : Type 0} → (A → ℕ) → List A → ℕ
@@ -21,8 +29,16 @@ total size [] = 0
 total size (a ∷ l) = size a + total size l
 
 unfoldable pub place_total : {A : Type 0} → (A → ℕ) → Option (List A) → Count
-place_total size none = Unreadable
-place_total size (some l) = Of (total size l)
+place_total size none = unreadable
+place_total size (some l) = Ok (total size l)
+
+-- where the content starts of the one element that fills a string
+unfoldable pub filled : ℕ → Answer → Count
+filled end (Ok e) = cond (eqb e.next end) (Ok e.start) unreadable
+filled end (Err why) = unreadable
+
+unfoldable pub content_at : List ℕ → Count
+content_at s = filled (length s) (tagged_at s 0 (length s) 0x30)
 
 -- ---- what is counted from one place to another
 
@@ -52,11 +68,11 @@ sides_at s from end = place_total members_of (also (λ l. some? l && chain risin
 
 module _ {A P : Type 0} (size : A → ℕ) (fits : P → A → Bool) (after : A → P) where
   unfoldable pub tally : P → ℕ → List A → Count
-  tally p k [] = Of k
-  tally p k (a ∷ l) = cond (fits p a) (tally (after a) (k + size a) l) Unreadable
+  tally p k [] = Ok k
+  tally p k (a ∷ l) = cond (fits p a) (tally (after a) (k + size a) l) unreadable
 
   unfoldable pub run_on : P → ℕ → Option (List A) → Count
-  run_on p k none = Unreadable
+  run_on p k none = unreadable
   run_on p k (some l) = tally p k l
 
 -- any item may follow

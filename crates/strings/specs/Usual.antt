@@ -1,32 +1,29 @@
 -- What a yes shows of the usual name and of the usual set, whose lengths are in short form.
-use Rattle.std.specs.Prelude.{ℕ, ◌+◌, ◌≡◌, Bool, true, List, get_or}
-use Rattle.der.specs.Places.{element_at}
-use Rattle.der.specs.declared.Element.TheVariants.{Found}
+use Rattle.std.specs.Prelude.{ℕ, ◌+◌, ◌≡◌, Bool, true, List}
+use Rattle.std.specs.Prelude.{Ok}
+use Rattle.der.specs.Places.{found, element_at}
 use Rattle.entries.specs.Entries.{attribute_at, good_name_at}
-use Rattle.entries.specs.declared.Name.TheVariants.{Is}
+use Rattle.entries.specs.declared.Name.{Name}
 use Rattle.strings.specs.Counts.{set_at}
-use Rattle.strings.specs.declared.Count.TheVariants.{Of}
 
 -- a test that suffices: a yes shows A, a no shows nothing
 unfoldable pub Sufficient : Bool → Type 0 → Type 0
 Sufficient r A = r ≡ true → A
 
--- an element of this tag stands at `at`, its length in short form, and A holds of it
-pub record Short (s : List ℕ) (at end tag : ℕ) (A : Type 0) : Type 0 where
-  pub element : element_at s at end ≡ Found tag (at + 2) (at + 2 + get_or s (at + 1) 0)
-  pub holds : A
+-- an element of this tag stands at `at`, its length in short form, and A holds of where it ends
+pub record Short (s : List ℕ) (at end tag : ℕ) (A : ℕ → Type 0) (next : ℕ) : Type 0 where
+  pub element : element_at s at end ≡ found tag (at + 2) next
+  pub holds : A next
 
 -- a readable dNSName
-abbrev pub UsualName : List ℕ → ℕ → ℕ → Type 0
-UsualName s at end = Short s at end 0x82 (good_name_at s 0x82 (at + 2) (at + 2 + get_or s (at + 1) 0) ≡ true)
+abbrev pub UsualName : List ℕ → ℕ → ℕ → ℕ → Type 0
+UsualName s at end = Short s at end 0x82 (λ next. good_name_at s 0x82 (at + 2) next ≡ true)
 
 -- the content of a readable attribute
 pub record UsualAttribute (s : List ℕ) (start end : ℕ) : Type 0 where
-  pub kind : ℕ
-  pub tag : ℕ
-  pub text : ℕ
-  pub named : attribute_at s 0x30 start end ≡ Is kind tag text
+  pub name : Name
+  pub named : attribute_at s 0x30 start end ≡ Ok name
 
 -- a readable set of one attribute
-abbrev pub UsualSet : List ℕ → ℕ → ℕ → Type 0
-UsualSet s at end = Short s at end 0x31 (set_at s (at + 2) (at + 2 + get_or s (at + 1) 0) ≡ Of 1)
+abbrev pub UsualSet : List ℕ → ℕ → ℕ → ℕ → Type 0
+UsualSet s at end = Short s at end 0x31 (λ next. set_at s (at + 2) next ≡ Ok 1)

@@ -1,98 +1,77 @@
 // The three certificate strings, read from a slice: whether each is readable, and how many names its list has.
-#![tactic(auto)]
+#![tactic(auto, using(crate::proofs::Laws::laws))]
 
-ghost use Rattle.std.specs.Prelude.{◌+◌, ◌<◌, ◌≤◌, ◌≡◌, length};
+ghost use Rattle.std.specs.Prelude.{◌+◌, ◌<◌, ◌≤◌, ◌≡◌, length, IfSome};
 ghost use Rattle.reading.specs.Strings.{read_san, read_subject, read_constraints};
-ghost use Rattle.strings.specs.Counts.{place_count, names_at, order_at, set_at, sets_at, side_at, sides_at};
+ghost use Rattle.strings.specs.Counts.{content_at, place_count, names_at, order_at, set_at, sets_at, side_at, sides_at};
 ghost use Rattle.strings.specs.Usual.{Sufficient, UsualName, UsualAttribute, UsualSet};
 
-use der::{Element, read_element, tagged};
-use entries::{Name, attribute, good_name, good_subtree};
+use der::{read_element, tagged};
+use entries::{Unreadable, attribute, good_name, good_subtree};
 use octets::wide;
 
-// How many names a string's list has.
-#[derive(Clone, Copy)]
-pub enum Count {
-    Of(usize),
-    Unreadable,
+// "tag 30", of each of the three strings: where the content starts of the one element that fills the string.
+fn content(s: &[u8]) -> Result<usize, Unreadable>
+    ensures { result ≡ content_at s.now }
+{
+    let whole = tagged(s, 0, s.len(), 0x30)?;
+    if whole.next != s.len() {
+        return Err(Unreadable);
+    }
+    Ok(whole.start)
 }
 
-// Whether the usual name stands at `at`, and is readable: a dNSName of 16 to 32 bytes. The longest has 34 bytes with its header, and where
-// fewer are left the answer is no. A no says nothing: the name is then read as any other. Its length, in short form, says where it ends,
-// and the compiler knows enough of it to test its bytes without a loop.
-fn usual_name(s: &[u8], at: usize, end: usize) -> bool
+// Where the usual name ends, if it stands at `at` and is readable: a dNSName of 16 to 32 bytes. The longest has 34 bytes with its header,
+// and where fewer are left the answer is none. None says nothing: the name is then read as any other. Its length, in short form, says where
+// it ends, and the compiler knows enough of it to test its bytes without a loop.
+fn usual_name(s: &[u8], at: usize, end: usize) -> Option<usize>
     requires at_le_end { at ≤ end }
     requires end_in_bounds { end ≤ length s.now }
-    ensures { Sufficient result (UsualName s.now at end) }
+    ensures { IfSome result (UsualName s.now at end) }
 {
-    if end - at < 34 {
-        return false;
-    }
-    if s[at] != 0x82 {
-        return false;
+    if end - at < 34 || s[at] != 0x82 {
+        return None;
     }
     let n = wide(s[at + 1]);
-    if n < 16 {
-        return false;
+    if !(16..=32).contains(&n) {
+        return None;
     }
-    if 32 < n {
-        return false;
-    }
-    good_name(s, 0x82, at + 2, at + 2 + n)
+    let next = at + 2 + n;
+    good_name(s, 0x82, at + 2, next).then_some(next)
 }
 
 // The GeneralNames from one place to another, one after the other.
-fn count_names(s: &[u8], from: usize, end: usize) -> Count
+fn count_names(s: &[u8], from: usize, end: usize) -> Result<usize, Unreadable>
     requires from_le_end { from ≤ end }
     requires end_in_bounds { end ≤ length s.now }
     ensures { result ≡ names_at s.now from end }
 {
     let mut at = from;
-    let mut k: usize = 0;
+    let mut k = 0;
     while at < end {
-        let usual = usual_name(s, at, end);
-        if usual {
-            let n = wide(s[at + 1]);
-            at = at + 2 + n;
-            k = k + 1;
-            continue;
-        }
-        let e = read_element(s, at, end);
-        let Element::Found { tag, start, next } = e else {
-            return Count::Unreadable;
-        };
-        let ok = good_name(s, tag, start, next);
-        if ok {
+        if let Some(next) = usual_name(s, at, end) {
             at = next;
-            k = k + 1;
         } else {
-            return Count::Unreadable;
+            let e = read_element(s, at, end)?;
+            if !good_name(s, e.tag, e.start, e.next) {
+                return Err(Unreadable);
+            }
+            at = e.next;
         }
+        k += 1;
     }
-    Count::Of(k)
+    Ok(k)
 }
 
 // "SAN: tag 30, one or more GeneralNames."
-pub fn san_count(s: &[u8]) -> Count
+pub fn san_count(s: &[u8]) -> Result<usize, Unreadable>
     ensures { result ≡ place_count (read_san s.now) }
 {
-    let end = s.len();
-    let e = tagged(s, 0, end, 0x30);
-    let Element::Found {
-        tag: _,
-        start,
-        next,
-    } = e
-    else {
-        return Count::Unreadable;
-    };
-    if next != end {
-        return Count::Unreadable;
+    let start = content(s)?;
+    if start == s.len() {
+        return Err(Unreadable);
     }
-    if start == end {
-        return Count::Unreadable;
-    }
-    count_names(s, start, end)
+    count_names(s, start, s.len())
 }
 
 // "The attributes of a set stand in ascending byte order, equal ones allowed": whether the bytes from `last` to `at` are no
@@ -102,62 +81,32 @@ fn in_order(s: &[u8], last: usize, at: usize, next: usize) -> bool
     requires next_in_bounds { next ≤ length s.now }
     ensures { result ≡ order_at s.now last at at next }
 {
-    let mut i = last;
-    let mut j = at;
-    while i < at {
-        if j == next {
-            return false;
-        }
-        let x = s[i];
-        let y = s[j];
-        if x < y {
-            return true;
-        }
-        if y < x {
-            return false;
-        }
-        i += 1;
-        j += 1;
-    }
-    true
+    s[last..at] <= s[at..next]
 }
 
 // "one or more attributes (30)", each no earlier than the one before it.
-fn count_set(s: &[u8], from: usize, end: usize) -> Count
+fn count_set(s: &[u8], from: usize, end: usize) -> Result<usize, Unreadable>
     requires from_le_end { from ≤ end }
     requires end_in_bounds { end ≤ length s.now }
     ensures { result ≡ set_at s.now from end }
 {
     if from == end {
-        return Count::Unreadable;
+        return Err(Unreadable);
     }
-    let mut at = from;
     let mut last = from;
-    let mut k: usize = 0;
+    let mut at = from;
+    let mut k = 0;
     while at < end {
-        let e = read_element(s, at, end);
-        let Element::Found { tag, start, next } = e else {
-            return Count::Unreadable;
-        };
-        let a = attribute(s, tag, start, next);
-        let Name::Is {
-            kind: _,
-            tag: _,
-            text: _,
-        } = a
-        else {
-            return Count::Unreadable;
-        };
-        let ok = in_order(s, last, at, next);
-        if ok {
-            last = at;
-            at = next;
-            k = k + 1;
-        } else {
-            return Count::Unreadable;
+        let e = read_element(s, at, end)?;
+        attribute(s, e.tag, e.start, e.next)?;
+        if !in_order(s, last, at, e.next) {
+            return Err(Unreadable);
         }
+        last = at;
+        at = e.next;
+        k += 1;
     }
-    Count::Of(k)
+    Ok(k)
 }
 
 // Whether the content of an attribute is "one OID element and one value element", both with a length in short form. A no says nothing.
@@ -168,189 +117,109 @@ fn usual_attribute(s: &[u8], start: usize, end: usize) -> bool
     requires end_bound { end < start + 128 }
     ensures { Sufficient result (UsualAttribute s.now start end) }
 {
-    if s[start] != 0x06 {
-        return false;
-    }
-    let oid = wide(s[start + 1]);
-    if oid == 0 {
-        return false;
-    }
     let all = end - start;
-    if all < oid + 4 {
-        return false;
-    }
-    if s[start + 2 + oid] % 32 == 31 {
-        return false;
-    }
-    let text = wide(s[start + 3 + oid]);
-    if oid + text + 4 != all {
-        return false;
-    }
-    true
+    let oid = wide(s[start + 1]);
+    s[start] == 0x06
+        && oid != 0
+        && oid + 4 <= all
+        && s[start + 2 + oid] % 32 != 31
+        && oid + wide(s[start + 3 + oid]) + 4 == all
 }
 
-// Whether the usual set stands at `at`, and is readable: one attribute, and every length in short form. A no says nothing.
-fn usual_set(s: &[u8], at: usize, end: usize) -> bool
+// Where the usual set ends, if it stands at `at` and is readable: one attribute, and every length in short form. None says nothing.
+fn usual_set(s: &[u8], at: usize, end: usize) -> Option<usize>
     requires at_le_end { at ≤ end }
     requires end_in_bounds { end ≤ length s.now }
-    ensures { Sufficient result (UsualSet s.now at end) }
+    ensures { IfSome result (UsualSet s.now at end) }
 {
     let room = end - at;
-    if room < 9 {
-        return false;
-    }
-    if s[at] != 0x31 {
-        return false;
+    if room < 9 || s[at] != 0x31 {
+        return None;
     }
     let size = wide(s[at + 1]);
-    if 128 <= size {
-        return false;
+    if 128 <= size || room < size + 2 || s[at + 2] != 0x30 || wide(s[at + 3]) + 2 != size {
+        return None;
     }
-    if room < size + 2 {
-        return false;
-    }
-    if s[at + 2] != 0x30 {
-        return false;
-    }
-    let inner = wide(s[at + 3]);
-    if inner + 2 != size {
-        return false;
-    }
-    usual_attribute(s, at + 4, at + 2 + size)
+    let next = at + 2 + size;
+    usual_attribute(s, at + 4, next).then_some(next)
 }
 
 // The sets from one place to another, one after the other.
-fn count_sets(s: &[u8], from: usize, end: usize) -> Count
+fn count_sets(s: &[u8], from: usize, end: usize) -> Result<usize, Unreadable>
     requires from_le_end { from ≤ end }
     requires end_in_bounds { end ≤ length s.now }
     ensures { result ≡ sets_at s.now from end }
 {
     let mut at = from;
-    let mut k: usize = 0;
+    let mut k = 0;
     while at < end {
-        let usual = usual_set(s, at, end);
-        if usual {
-            let n = wide(s[at + 1]);
-            at = at + 2 + n;
-            k = k + 1;
-            continue;
+        if let Some(next) = usual_set(s, at, end) {
+            at = next;
+            k += 1;
+        } else {
+            let set = tagged(s, at, end, 0x31)?;
+            k += count_set(s, set.start, set.next)?;
+            at = set.next;
         }
-        let e = tagged(s, at, end, 0x31);
-        let Element::Found {
-            tag: _,
-            start,
-            next,
-        } = e
-        else {
-            return Count::Unreadable;
-        };
-        let c = count_set(s, start, next);
-        let Count::Of(n) = c else {
-            return Count::Unreadable;
-        };
-        at = next;
-        k = k + n;
     }
-    Count::Of(k)
+    Ok(k)
 }
 
 // "Subject: tag 30, zero or more sets"
-pub fn subject_count(s: &[u8]) -> Count
+pub fn subject_count(s: &[u8]) -> Result<usize, Unreadable>
     ensures { result ≡ place_count (read_subject s.now) }
 {
-    let end = s.len();
-    let e = tagged(s, 0, end, 0x30);
-    let Element::Found {
-        tag: _,
-        start,
-        next,
-    } = e
-    else {
-        return Count::Unreadable;
-    };
-    if next != end {
-        return Count::Unreadable;
-    }
-    count_sets(s, start, end)
+    let start = content(s)?;
+    count_sets(s, start, s.len())
 }
 
 // The subtrees from one place to another, one after the other.
-fn count_side(s: &[u8], from: usize, end: usize) -> Count
+fn count_side(s: &[u8], from: usize, end: usize) -> Result<usize, Unreadable>
     requires from_le_end { from ≤ end }
     requires end_in_bounds { end ≤ length s.now }
     ensures { result ≡ side_at s.now from end }
 {
     let mut at = from;
-    let mut k: usize = 0;
+    let mut k = 0;
     while at < end {
-        let e = read_element(s, at, end);
-        let Element::Found { tag, start, next } = e else {
-            return Count::Unreadable;
-        };
-        let ok = good_subtree(s, tag, start, next);
-        if ok {
-            at = next;
-            k = k + 1;
-        } else {
-            return Count::Unreadable;
+        let e = read_element(s, at, end)?;
+        if !good_subtree(s, e.tag, e.start, e.next) {
+            return Err(Unreadable);
         }
+        at = e.next;
+        k += 1;
     }
-    Count::Of(k)
+    Ok(k)
 }
 
 // "A0 (permitted), A1 (excluded), or both in that order; at least one. Each holds one or more 30 elements".
-fn count_sides(s: &[u8], from: usize, end: usize) -> Count
+fn count_sides(s: &[u8], from: usize, end: usize) -> Result<usize, Unreadable>
     requires from_le_end { from ≤ end }
     requires end_in_bounds { end ≤ length s.now }
     ensures { result ≡ sides_at s.now from end }
 {
     if from == end {
-        return Count::Unreadable;
+        return Err(Unreadable);
     }
     let mut at = from;
     let mut low: u8 = 0xA0;
-    let mut k: usize = 0;
+    let mut k = 0;
     while at < end {
-        let e = read_element(s, at, end);
-        let Element::Found { tag, start, next } = e else {
-            return Count::Unreadable;
-        };
-        let c = count_side(s, start, next);
-        if tag < low {
-            return Count::Unreadable;
+        let side = read_element(s, at, end)?;
+        if side.tag < low || 0xA1 < side.tag || side.start == side.next {
+            return Err(Unreadable);
         }
-        if 0xA1 < tag {
-            return Count::Unreadable;
-        }
-        if start == next {
-            return Count::Unreadable;
-        }
-        let Count::Of(n) = c else {
-            return Count::Unreadable;
-        };
-        low = tag + 1;
-        at = next;
-        k = k + n;
+        k += count_side(s, side.start, side.next)?;
+        low = side.tag + 1;
+        at = side.next;
     }
-    Count::Of(k)
+    Ok(k)
 }
 
 // "Constraints: tag 30 holding" the sides.
-pub fn constraints_count(s: &[u8]) -> Count
+pub fn constraints_count(s: &[u8]) -> Result<usize, Unreadable>
     ensures { result ≡ place_count (read_constraints s.now) }
 {
-    let end = s.len();
-    let e = tagged(s, 0, end, 0x30);
-    let Element::Found {
-        tag: _,
-        start,
-        next,
-    } = e
-    else {
-        return Count::Unreadable;
-    };
-    if next != end {
-        return Count::Unreadable;
-    }
-    count_sides(s, start, end)
+    let start = content(s)?;
+    count_sides(s, start, s.len())
 }

@@ -1,41 +1,19 @@
 -- An authority, and what is left of it past its "@": by one look at each byte.
 use Prim.Native.Nat.{ℕ, suc, ◌+◌, ◌<◌, ◌≤◌}
-use mathlib.Core.Path.{◌≡◌, sym, ap, fun_ext, ◌∙◌}
+use mathlib.Core.Path.{◌≡◌, refl, sym, ap, fun_ext, ◌∙◌}
 use mathlib.Core.Bool.{Bool, true, false, or-false, or-true}
 use mathlib.Core.List.{List, [], ◌∷◌}
 use native.Mathlib.Omega.{arith}
 use lib.ListN.{length, get_or, take, drop, length-drop}
-use lib.Dec.{eqb}
-use borrow.Author.Tests.{eq-eqb, ne_eqb, eqb-true}
+use lib.Dec.{eqb, ltb}
+use borrow.Author.Tests.{eq-eqb, ne_eqb, eqb-true, ltb-true, ltb-false}
 use Rattle.octets.proofs.Cases.{by_cases, clash}
 use Rattle.octets.proofs.Cut as cut
 use Rattle.octets.proofs.Place.{part_before, part_after, passes_at, whole_before}
+use Rattle.std.specs.List.{position_or_len}
 use Rattle.rules.specs.Bytes.{any, before, after}
 use Rattle.rules.specs.Names.{is, at_sign, slash, authority_end}
 use Rattle.uri.specs.Parts.{stops, host_port}
-
--- ---- a byte that stops
-
-module _ (b x : ℕ) where
-  -- "/"
-  pub stops_slash : x ≡ 0x2F → true ≡ stops b x
-  unfolding stops authority_end
-  stops_slash e = rw (eq-eqb x 0x2F e)
-
-  -- "?"
-  pub stops_question : x ≡ 0x3F → true ≡ stops b x
-  unfolding stops authority_end
-  stops_question e = simp (eq-eqb x 0x3F e, or-true)
-
-  -- "#"
-  pub stops_hash : x ≡ 0x23 → true ≡ stops b x
-  unfolding stops authority_end
-  stops_hash e = simp (eq-eqb x 0x23 e, or-true)
-
-  -- any other byte: b itself
-  pub stops_other : (x ≡ 0x2F → ⊥) → (x ≡ 0x3F → ⊥) → (x ≡ 0x23 → ⊥) → eqb x b ≡ stops b x
-  unfolding stops authority_end
-  stops_other e f g = rw (ne_eqb x 0x2F e, ne_eqb x 0x3F f, ne_eqb x 0x23 g)
 
 -- a slash ends an authority anyhow
 stops_end : (x : ℕ) → stops slash x ≡ authority_end x
@@ -45,26 +23,6 @@ stops_end x = by_cases (eqb x slash) (λ e. rw e) (λ e. simp (e, or-false))
 -- so up to a slash or an end is up to an end
 before_end : (s : List ℕ) → before (stops slash) s ≡ before authority_end s
 before_end s = ap (λ (p : ℕ → Bool). before p s) (fun_ext stops_end)
-
--- ---- the loop
-
--- where the loop begins
-pub stop_begin : (s : List ℕ) (b : ℕ) → cut.Cutting (stops b) s 0
-stop_begin s b = cut.cut_begin _ s
-
-module _ (s : List ℕ) (b i : ℕ) (inv : cut.Cutting (stops b) s i) where
-  module _ (here : Bool) (is_here : here ≡ stops b (get_or s i 0)) where
-    -- a byte that stops
-    pub stop_here : i < length s → here ≡ true → i ≡ length (before (stops b) s)
-    stop_here h e = cut.cut_here _ s i inv h (sym is_here ∙ e)
-
-    -- one that does not
-    pub stop_next : i < length s → here ≡ false → cut.Cutting (stops b) s (i + 1)
-    stop_next h e = cut.cut_next _ s i inv h (sym is_here ∙ e)
-
-  -- no byte left
-  pub stop_end : length s ≤ i → i ≡ length (before (stops b) s)
-  stop_end h = cut.cut_end _ s i inv h
 
 -- ---- host and port
 
@@ -127,31 +85,28 @@ module _ (rest : List ℕ) (n : ℕ) (at : n ≡ length (before (stops at_sign) 
   no_at : any (is at_sign) (before (stops at_sign) rest) ≡ false
   no_at = cut.any_before (stops at_sign) (is at_sign) at_stops rest
 
-  -- the text ends before either: all of it
-  pub host_whole : n ≡ length rest → rest ≡ host_port rest
+  -- the text or the authority ends first: all of the authority
+  pub host_plain : (n < length rest → get_or rest n 0 ≡ 0x40 → ⊥) → n ≤ length rest → take n rest ≡ host_port rest
   unfolding host_port
-  host_whole h =
-      let w : before (stops at_sign) rest ≡ rest = whole_before (stops at_sign) rest n at (omega arith) in
-      let e : before authority_end rest ≡ rest = cut.before_whole authority_end rest (rw w at no_end) in
-      sym (rw (e, rw w at no_at))
-
-  -- the authority ends first: all of the authority
-  pub host_plain : (get_or rest n 0 ≡ 0x40 → ⊥) → n ≤ length rest → (n ≡ length rest → ⊥) → take n rest ≡ host_port rest
-  unfolding host_port
-  host_plain e h k =
-      let l : n < length rest = omega arith in
-      let q : authority_end (get_or rest n 0) ≡ true =
-      other_end (get_or rest n 0) (passes_at (stops at_sign) rest n at l) (ne_eqb (get_or rest n 0) 0x40 e) in
-      let b : before authority_end rest ≡ before (stops at_sign) rest =
-      cut.before_there (stops at_sign) authority_end end_stops rest (rw (← at) l) (rw (← at) q) in
-      sym (rw (b, no_at) (sym (part_before (stops at_sign) rest n at)))
+  host_plain e h = sym (rw (ends, no_at) (sym (part_before (stops at_sign) rest n at)))
+    where
+      ends : before authority_end rest ≡ before (stops at_sign) rest
+      ends =
+          by_cases (ltb n (length rest))
+          (λ k.
+          let l : n < length rest = ltb-true n (length rest) k in
+          let q : authority_end (get_or rest n 0) ≡ true =
+          other_end (get_or rest n 0) (passes_at (stops at_sign) rest n at l) (ne_eqb (get_or rest n 0) 0x40 (e l)) in
+          cut.before_there (stops at_sign) authority_end end_stops rest (rw (← at) l) (rw (← at) q))
+          (λ k.
+          let w : before (stops at_sign) rest ≡ rest = whole_before (stops at_sign) rest n at (ltb-false n (length rest) k) in
+          cut.before_whole authority_end rest (rw w at no_end) ∙ sym w)
 
   -- an "@" comes first: what follows it, up to the end
   pub host_past : (host : List ℕ) → host ≡ drop (n + 1) rest → (end : ℕ) → end ≡ length (before (stops slash) host) → get_or rest n 0 ≡ 0x40
-      → n ≤ length rest → (n ≡ length rest → ⊥) → take end host ≡ host_port rest
+      → n < length rest → take end host ≡ host_port rest
   unfolding host_port
-  host_past host f end g e h k =
-      let l : n < length rest = omega arith in
+  host_past host f end g e l =
       let a : is at_sign (get_or rest n 0) ≡ true = eq-eqb (get_or rest n 0) 0x40 e in
       part_before (stops slash) host end g
       ∙ before_end host
@@ -171,3 +126,11 @@ host_within rest =
     by_cases (any (is at_sign) (before authority_end rest))
     (λ e. rw e (omega (arith, after_within (is at_sign) (before authority_end rest))))
     (λ e. rw e short)
+
+-- ---- the place of a byte
+
+-- how many bytes stand before the first that passes
+pub place_is : (p : ℕ → Bool) (s : List ℕ) → length (before p s) ≡ position_or_len p s
+unfolding before
+place_is p [] = refl
+place_is p (x ∷ s) = by_cases (p x) (λ e. rw e) (λ e. rw e (omega (arith, place_is p s)))

@@ -1,12 +1,12 @@
 -- A host and its port, and a host that is compared with a reference's domain.
 use Prim.Native.Nat.{ℕ, ◌+◌, ◌<◌, ◌≤◌}
 use mathlib.Core.Path.{◌≡◌, sym, ap, ◌∙◌}
-use mathlib.Core.Bool.{Bool, true, false, not, and-true}
+use mathlib.Core.Bool.{Bool, true, false, and-true}
 use mathlib.Core.List.{List, []}
 use native.Mathlib.Omega.{arith}
 use lib.ListN.{length, get_or, take, drop}
 use lib.Seq.{take_all, length-take-le}
-use borrow.Author.Tests.{eq-eqb, eqb-true, not-true, not-false}
+use borrow.Author.Tests.{eq-eqb, eqb-true}
 use Rattle.octets.proofs.Cases.{and_left, and_right, fails, clash}
 use Rattle.octets.proofs.Compare.{text_length_lem}
 use Rattle.octets.proofs.Cut.{before_within, before_whole}
@@ -21,21 +21,21 @@ use Rattle.uri.specs.Parts.{hosted, host_matches}
 
 module _ (h : List ℕ) (n : ℕ) (at : n ≡ length (before (is colon) h)) (good : Bool) (is_good : good ≡ domain (take n h)) where
   -- no domain stands before the colon
-  pub hosted_no_domain : not good ≡ true → false ≡ hosted h
+  pub hosted_no_domain : good ≡ false → false ≡ hosted h
   unfolding hosted
-  hosted_no_domain e = rw (← part_before (is colon) h n at, ← is_good, not-true good e)
+  hosted_no_domain e = rw (← part_before (is colon) h n at, ← is_good, e)
 
   -- one does, and there is no colon
-  pub hosted_no_port : not good ≡ false → n ≡ length h → true ≡ hosted h
+  pub hosted_no_port : good ≡ true → n ≡ length h → true ≡ hosted h
   unfolding hosted
   hosted_no_port e l =
-      rw (← part_before (is colon) h n at, ← is_good, not-false good e, none_after (is colon) h n at (omega arith))
+      rw (← part_before (is colon) h n at, ← is_good, e, none_after (is colon) h n at (omega arith))
 
   -- one does, and the port decides
-  pub hosted_port : (port : List ℕ) (r : Bool) → port ≡ drop (n + 1) h → r ≡ all digit port → not good ≡ false → r ≡ hosted h
+  pub hosted_port : (port : List ℕ) (r : Bool) → port ≡ drop (n + 1) h → r ≡ all digit port → good ≡ true → r ≡ hosted h
   unfolding hosted
   hosted_port port r f g e =
-      g ∙ rw (f, part_after (is colon) h n at, ← part_before (is colon) h n at, ← is_good, not-false good e)
+      g ∙ rw (f, part_after (is colon) h n at, ← part_before (is colon) h n at, ← is_good, e)
 
 -- ---- compared first
 
@@ -66,8 +66,8 @@ module _ (d h : List ℕ) where
   host_short k = fails _ (λ e. omega (arith, place e, before_within (is colon) h))
 
   -- another text
-  pub host_other : (r : Bool) → r ≡ same_text (take (length d) h) d → not r ≡ true → false ≡ host_matches d h
-  host_other r f k = fails _ (λ e. clash (host_same e) (rw (← host_part e) (sym f ∙ not-true r k)))
+  pub host_other : (r : Bool) → r ≡ same_text (take (length d) h) d → r ≡ false → false ≡ host_matches d h
+  host_other r f k = fails _ (λ e. clash (host_same e) (rw (← host_part e) (sym f ∙ k)))
 
   -- something else than a colon follows
   pub host_no_colon : length d ≤ length h → (length h ≡ length d → ⊥) → (get_or h (length d) 0 ≡ 0x3A → ⊥) → false ≡ host_matches d h
@@ -76,9 +76,9 @@ module _ (d h : List ℕ) where
       fails _ (λ e. n (eqb-true _ _ (passes_at (is colon) h (length d) (place e) m)))
 
   -- the host was compared with a domain, and is one
-  module _ (good : domain d ≡ true) (s : Bool) (is_s : s ≡ same_text (take (length d) h) d) (same : not s ≡ false) where
+  module _ (good : domain d ≡ true) (s : Bool) (is_s : s ≡ same_text (take (length d) h) d) (same : s ≡ true) where
     is_same : same_text (take (length d) h) d ≡ true
-    is_same = sym is_s ∙ not-false s same
+    is_same = sym is_s ∙ same
 
     is_good : domain (take (length d) h) ≡ true
     is_good = same_domains (take (length d) h) d is_same ∙ good

@@ -1,4 +1,3 @@
 mod Authority
 mod Host
 mod Uri
-mod Laws

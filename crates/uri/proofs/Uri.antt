@@ -1,14 +1,14 @@
 -- URI-IDs by the place of the first colon, and what matches a reference whose scheme and domain are good.
 use Prim.Native.Nat.{ℕ, ◌+◌, ◌-◌, ◌<◌, ◌≤◌}
 use mathlib.Core.Path.{◌≡◌, refl, sym, ap, ◌∙◌}
-use mathlib.Core.Bool.{Bool, true, false, not, ◌&&◌, and-true, and-false, and_assoc, and_comm}
+use mathlib.Core.Bool.{Bool, true, false, ◌&&◌, and-true, and-false, and_assoc, and_comm}
 use mathlib.Core.List.{List, [], ◌∷◌}
 use native.Mathlib.Omega.{arith}
 use lib.ListN.{length, get_or, take, drop, length-drop}
 use lib.Seq.{length-take-le}
 use lib.Dec.{eqb, ltb}
-use borrow.Author.Tests.{eq-eqb, ne_eqb, eqb-true, ltb-true, ltb-false, not-true, not-false}
-use Rattle.octets.proofs.Cases.{by_cases, and_left, and_right, fails, clash, eqb_swap}
+use borrow.Author.Tests.{eq-eqb, ne_eqb, eqb-true, ltb-true, ltb-false}
+use Rattle.octets.proofs.Cases.{by_cases, and_left, and_right, fails, clash}
 use Rattle.octets.proofs.Compare.{text_length_lem}
 use Rattle.octets.proofs.Cut.{drop_after}
 use Rattle.octets.proofs.Place.{part_before, part_after, none_after, passes_at, before_at}
@@ -28,32 +28,30 @@ slashes = slash ∷ slash ∷ []
 -- ---- "//"
 
 -- too short
-pub slashed_short : (s : List ℕ) → length s < 2 → false ≡ begins slashes s
+pub slashed_short : (s : List ℕ) → length s < 2 → begins slashes s ≡ false
 unfolding begins
 slashed_short [] h = refl
-slashed_short (x ∷ []) h = sym (and-false (eqb slash x))
+slashed_short (x ∷ []) h = and-false (eqb slash x)
 slashed_short (x ∷ y ∷ s) h = absurd (omega arith)
 
--- another first byte
-pub slashed_first : (s : List ℕ) → 2 ≤ length s → (get_or s 0 0 ≡ 0x2F → ⊥) → false ≡ begins slashes s
+-- another first or second byte
+pub slashed_first : (s : List ℕ) → 2 ≤ length s → (get_or s 0 0 ≡ 0x2F → ⊥) → begins slashes s ≡ false
 unfolding begins
 slashed_first [] h n = absurd (omega arith)
 slashed_first (x ∷ s) h n = rw (ne_eqb slash x (λ e. n (sym e)))
 
--- the second byte decides
-pub slashed_second : (s : List ℕ) → 2 ≤ length s → get_or s 0 0 ≡ 0x2F → eqb (get_or s 1 0) 0x2F ≡ begins slashes s
+pub slashed_second : (s : List ℕ) → 2 ≤ length s → (get_or s 1 0 ≡ 0x2F → ⊥) → begins slashes s ≡ false
 unfolding begins
-slashed_second [] h e = absurd (omega arith)
-slashed_second (x ∷ []) h e = absurd (omega arith)
-slashed_second (x ∷ y ∷ s) h e =
-    eqb_swap y slash ∙ sym (rw (eq-eqb slash x (sym e)) (and-true (eqb slash y)))
+slashed_second [] h n = absurd (omega arith)
+slashed_second (x ∷ []) h n = absurd (omega arith)
+slashed_second (x ∷ y ∷ s) h n = simp (ne_eqb slash y (λ e. n (sym e)), and-false)
 
--- a text that begins so has two bytes
-pub slashed_long : (s : List ℕ) (m : Bool) → m ≡ begins slashes s → m ≡ true → 2 ≤ length s
+-- both
+pub slashed_here : (s : List ℕ) → 2 ≤ length s → get_or s 0 0 ≡ 0x2F → get_or s 1 0 ≡ 0x2F → begins slashes s ≡ true
 unfolding begins
-slashed_long [] m f e = clash e f
-slashed_long (x ∷ []) m f e = clash e (f ∙ and-false (eqb slash x))
-slashed_long (x ∷ y ∷ s) m f e = omega arith
+slashed_here [] h e f = absurd (omega arith)
+slashed_here (x ∷ []) h e f = absurd (omega arith)
+slashed_here (x ∷ y ∷ s) h e f = simp (eq-eqb slash x (sym e), eq-eqb slash y (sym f))
 
 -- ---- what a URI-ID is, by what follows the colon
 
@@ -92,24 +90,21 @@ module _ (s : List ℕ) (n : ℕ) (at : n ≡ length (before (is colon) s)) wher
   scheme_is = part_before (is colon) s n at
 
   -- no colon
-  pub uri_no_colon : n ≡ length s → false ≡ uri_id s
+  pub uri_no_colon : length s ≤ n → false ≡ uri_id s
   unfolding begins
-  uri_no_colon h = sym (uri_is s ∙ rw (none_after (is colon) s n at (omega arith), and-false))
+  uri_no_colon h = sym (uri_is s ∙ rw (none_after (is colon) s n at h, and-false))
 
   -- no scheme before it
-  pub uri_no_scheme : (r : Bool) → r ≡ scheme (take n s) → not r ≡ true → false ≡ uri_id s
-  uri_no_scheme r f e = sym (uri_is s ∙ rw (← scheme_is, ← f, not-true r e))
+  pub uri_no_scheme : scheme (take n s) ≡ false → false ≡ uri_id s
+  uri_no_scheme e = sym (uri_is s ∙ rw (← scheme_is, e))
 
-  module _ (tail : List ℕ) (is_tail : tail ≡ drop (n + 1) s) (m : Bool) (is_m : m ≡ begins slashes tail) where
-    -- no "//" after it
-    pub uri_no_slashes : m ≡ false → false ≡ uri_id s
-    uri_no_slashes e = sym (uri_is s ∙ rw (← tail_is, ← is_tail, ← is_m, e, and-false))
+  -- no "//" after it
+  pub uri_no_slashes : begins slashes (drop (n + 1) s) ≡ false → uri_id s ≡ false
+  uri_no_slashes e = uri_is s ∙ rw (← tail_is, e, and-false)
 
-    -- both, and the host and the port decide
-    pub uri_hosted : (rest h : List ℕ) (r g : Bool) → rest ≡ drop 2 tail → h ≡ host_port rest → r ≡ scheme (take n s) → g ≡ hosted h
-        → not r ≡ false → m ≡ true → g ≡ uri_id s
-    uri_hosted rest h r g a b c d e f =
-        d ∙ sym (uri_is s ∙ rw (← scheme_is, ← c, not-false r e, ← tail_is, ← is_tail, ← is_m, f, ← a, ← b))
+  -- both, and the host and the port decide
+  pub uri_hosted : scheme (take n s) ≡ true → begins slashes (drop (n + 1) s) ≡ true → uri_id s ≡ hosted (host_port (drop 2 (drop (n + 1) s)))
+  uri_hosted e f = uri_is s ∙ rw (← scheme_is, e, ← tail_is, f)
 
 -- ---- compared first: the reference's scheme leaves one place for the colon
 
@@ -158,7 +153,7 @@ module _ (a d s : List ℕ) where
       let tail = after (is colon) s in
       let tail_long : length tail ≡ length s - (length a + 1) = rw (place e) (ap length (sym (drop_after (is colon) s)) ∙ length-drop _ s) in
       let two : 2 ≤ length tail =
-      by_cases (ltb (length tail) 2) (λ k. clash (is_slashed e) (sym (slashed_short tail (ltb-true _ 2 k)))) (λ k. ltb-false _ 2 k) in
+      by_cases (ltb (length tail) 2) (λ k. clash (is_slashed e) (slashed_short tail (ltb-true _ 2 k))) (λ k. ltb-false _ 2 k) in
       let host : length d ≤ length (host_port (drop 2 tail)) =
       by_cases (ltb (length (host_port (drop 2 tail))) (length d))
       (λ k. clash (is_host e) (sym (host_short d (host_port (drop 2 tail)) (ltb-true _ (length d) k)))) (λ k. ltb-false _ (length d) k) in
@@ -169,38 +164,35 @@ module _ (a d s : List ℕ) where
   match_no_colon n = fails _ (λ e. n (eqb-true _ _ (passes_at (is colon) s (length a) (place e) (has_colon e))))
 
   -- another scheme
-  pub match_other_scheme : (r : Bool) → r ≡ same_text (take (length a) s) a → not r ≡ true → false ≡ uri_matches a d s
+  pub match_other_scheme : (r : Bool) → r ≡ same_text (take (length a) s) a → r ≡ false → false ≡ uri_matches a d s
   match_other_scheme r f h =
-      fails _ (λ e. clash (scheme_same e) (rw (← scheme_is s (length a) (place e)) (sym f ∙ not-true r h)))
+      fails _ (λ e. clash (scheme_same e) (rw (← scheme_is s (length a) (place e)) (sym f ∙ h)))
 
-  module _ (tail : List ℕ) (is_tail : tail ≡ drop (length a + 1) s) (m : Bool) (is_m : m ≡ begins slashes tail) where
-    -- what follows the place is what follows the colon
-    tail_after : uri_matches a d s ≡ true → tail ≡ after (is colon) s
-    tail_after e = is_tail ∙ tail_is s (length a) (place e)
+  -- what follows the place is what follows the colon
+  tail_after : uri_matches a d s ≡ true → drop (length a + 1) s ≡ after (is colon) s
+  tail_after e = tail_is s (length a) (place e)
 
-    -- no "//"
-    pub match_no_slashes : m ≡ false → false ≡ uri_matches a d s
-    match_no_slashes h = fails _ (λ e. clash (is_slashed e) (rw (← tail_after e) (sym is_m ∙ h)))
+  -- no "//"
+  pub match_no_slashes : begins slashes (drop (length a + 1) s) ≡ false → uri_matches a d s ≡ false
+  match_no_slashes h = sym (fails _ (λ e. clash (is_slashed e) (rw (← tail_after e) h)))
 
-    -- the same scheme and "//": the host decides
-    pub match_host : scheme a ≡ true → (q : Bool) → q ≡ same_text (take (length a) s) a → not q ≡ false → length a < length s
-        → get_or s (length a) 0 ≡ 0x3A → m ≡ true → (rest h : List ℕ) (r : Bool) → rest ≡ drop 2 tail → h ≡ host_port rest → r ≡ host_matches d h
-        → r ≡ uri_matches a d s
-    match_host good q is_q o l c n rest h r is_rest is_h is_r =
-        let same : same_text (take (length a) s) a ≡ true = sym is_q ∙ not-false q o in
-        let known : scheme (take (length a) s) ≡ true = same_schemes (take (length a) s) a same ∙ good in
-        let b : before (is colon) s ≡ take (length a) s =
-        before_at (is colon) s (length a) l (scheme_no_colon (take (length a) s) known) (eq-eqb _ _ c) in
-        let at : length a ≡ length (before (is colon) s) = sym (ap length b ∙ length-take-le (length a) s (omega arith)) in
-        sym (match_is s a d
-        ∙ rw (← scheme_is s (length a) at, ← tail_is s (length a) at, ← is_tail, ← is_m, n, ← is_rest, ← is_h, ← is_r, known, same)
-        (and-true r))
+  -- the same scheme and "//": the host decides
+  pub match_host : scheme a ≡ true → same_text (take (length a) s) a ≡ true → length a < length s → get_or s (length a) 0 ≡ 0x3A
+      → begins slashes (drop (length a + 1) s) ≡ true → uri_matches a d s ≡ host_matches d (host_port (drop 2 (drop (length a + 1) s)))
+  match_host good same l c m =
+      let known : scheme (take (length a) s) ≡ true = same_schemes (take (length a) s) a same ∙ good in
+      let b : before (is colon) s ≡ take (length a) s =
+      before_at (is colon) s (length a) l (scheme_no_colon (take (length a) s) known) (eq-eqb _ _ c) in
+      let at : length a ≡ length (before (is colon) s) = sym (ap length b ∙ length-take-le (length a) s (omega arith)) in
+      match_is s a d
+      ∙ rw (← scheme_is s (length a) at, ← tail_is s (length a) at, m, known, same)
+      (and-true (host_matches d (host_port (drop 2 (drop (length a + 1) s)))))
 
   -- a reference that is not good
-  pub match_no_scheme : (r : Bool) → r ≡ scheme a → not r ≡ true → false ≡ uri_matches a d s
+  pub match_no_scheme : (r : Bool) → r ≡ scheme a → r ≡ false → false ≡ uri_matches a d s
   match_no_scheme r f h =
-      fails _ (λ e. clash (sym (same_schemes (scheme_of s) a (scheme_same e)) ∙ is_scheme e) (sym f ∙ not-true r h))
+      fails _ (λ e. clash (sym (same_schemes (scheme_of s) a (scheme_same e)) ∙ is_scheme e) (sym f ∙ h))
 
-  pub match_no_domain : (r : Bool) → r ≡ domain d → not r ≡ true → false ≡ uri_matches a d s
+  pub match_no_domain : (r : Bool) → r ≡ domain d → r ≡ false → false ≡ uri_matches a d s
   match_no_domain r f h =
-      fails _ (λ e. clash (is_domain d (host_port (drop 2 (after (is colon) s))) (is_host e)) (sym f ∙ not-true r h))
+      fails _ (λ e. clash (is_domain d (host_port (drop 2 (after (is colon) s))) (is_host e)) (sym f ∙ h))

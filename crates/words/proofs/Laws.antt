@@ -15,7 +15,7 @@ use Rattle.rules.specs.Bytes.{all}
 use Rattle.words.specs.Words.{value, byte?, clear?, every, Number}
 use Rattle.words.proofs.Values.{each, value_clear, masked_or, value_append}
 use Rattle.words.proofs.Ranges.{slice_cut}
-use Rattle.words.proofs.Every.{all_from_list, all_append, every_none, every_overlap, Left, left_begin, left_past, left_fails, left_last}
+use Rattle.words.proofs.Every.{all_from_list, all_append, every_overlap, Left, left_begin, step_fails, step_next, step_end}
 
 number_none : (s : List ℕ) (at : ℕ) → Number 0 s at 0
 unfolding value
@@ -133,37 +133,31 @@ module _ (p : ℕ → Bool) (s : List ℕ) (start end : ℕ) (fits : end ≤ len
       let z : end - 16 + 16 ≡ end = omega arith in
       e ∙ rw z (every_overlap p s start (end - 16) (start + 16) end (omega arith) (omega arith) (omega arith) fits)
 
-  -- 32 at a time
+  -- 32 at a time, in two parts of sixteen
   pub from_start : start ≤ end → Left p s start end start start
   from_start h = left_begin p s start end start fits (omega arith) h
 
-  module _ (last first at : ℕ) (inv : Left p s start end first at) (fine : Bool) where
-    module _ (is_last : last + 32 ≡ end) (is_fine : fine ≡ every p s at (at + 16) && every p s (at + 16) (at + 16 + 16)) where
-      pub sixteen_fails : at < last → not fine ≡ true → false ≡ every p s start end
-      sixteen_fails h e =
-          left_fails p s start end first fits at inv (at + 32) (omega arith) (omega arith)
-          (sym (both16 p s at (omega arith)) ∙ sym is_fine ∙ not-true fine e)
+  module _ (last at : ℕ) (is_last : last + 32 ≡ end) (inv : Left p s start end start at) where
+    module _ (before : at < last) (fine : Bool) (is_fine : fine ≡ every p s at (at + 16) && every p s (at + 16) (at + 16 + 16)) where
+      whole : fine ≡ every p s at (at + 32)
+      whole = is_fine ∙ both16 p s at (omega arith)
 
-      pub sixteen_next : at < last → not fine ≡ false → Left p s start end first (at + 32)
-      sixteen_next h e =
-          left_past p s start end first fits at inv (at + 32) (omega arith) (omega arith)
-          (sym (both16 p s at (omega arith)) ∙ sym is_fine ∙ not-false fine e)
+      pub sixteen_fails : not fine ≡ true → false ≡ every p s start end
+      sixteen_fails e = step_fails p s start end fits 32 last at is_last inv (omega arith) fine whole (not-true fine e)
 
-  -- at the end: the last 32
-  module _ (last at : ℕ) (from : start ≤ last) (past : last ≤ at) (within : at ≤ end) (r : Bool) where
-    pub last_end : Left p s start end start at → last + 32 ≡ end
+      pub sixteen_next : not fine ≡ false → Left p s start end start (at + 32)
+      sixteen_next e = step_next p s start end fits 32 last at is_last inv (omega arith) fine whole (not-false fine e)
+
+    pub last_end : start ≤ last → last ≤ at → at ≤ end → (r : Bool)
         → r ≡ every p s last (last + 16) && every p s (last + 16) (last + 16 + 16) → r ≡ every p s start end
-    last_end inv z e =
-        let w = left_last p s start end start fits at inv last from past within in
-        e ∙ both16 p s last (omega arith) ∙ rw z (rw (every_none p s start start (omega arith)) at w)
+    last_end from past within r e = step_end p s start end fits 32 last at is_last inv r (e ∙ both16 p s last (omega arith)) from past within
 
-  -- the same where the last 32 begin among those that were tested last
-  module _ (last at : ℕ) (from : start ≤ last) (before : at < last) (near : last ≤ at + 32) (within : at ≤ end) (r fine : Bool) where
-    pub near_end : Left p s start end start at → last + 32 ≡ end
-        → fine ≡ every p s at (at + 16) && every p s (at + 16) (at + 16 + 16) → fine ≡ true
-        → r ≡ every p s last (last + 16) && every p s (last + 16) (last + 16 + 16) → r ≡ every p s start end
-    near_end inv z is_fine f e =
-        last_end last (at + 32) from near (omega arith) r (sixteen_next last start at inv fine z is_fine before (rw f refl)) z e
+  -- the last 32, where they begin among those that were tested last
+  pub near_end : (last at : ℕ) → last + 32 ≡ end → Left p s start end start at → start ≤ last → at < last → last ≤ at + 32
+      → (fine : Bool) → fine ≡ every p s at (at + 16) && every p s (at + 16) (at + 16 + 16) → fine ≡ true
+      → (r : Bool) → r ≡ every p s last (last + 16) && every p s (last + 16) (last + 16 + 16) → r ≡ every p s start end
+  near_end last at is_last inv from before near fine is_fine f r e =
+      last_end last (at + 32) is_last (sixteen_next last at is_last inv before fine is_fine (rw f refl)) from near (omega arith) r e
 
 -- ---- every byte, by one test of it or another
 
@@ -182,8 +176,6 @@ module _ (p q : ℕ → Bool) (same : (b : ℕ) → b < 256 → p b ≡ q b) whe
 pub ruleset laws = (
   half_is,
   word_is,
-  clear2_is,
-  clear4_is,
   few_is,
   eight_overlap,
   sixteen_overlap,

@@ -1,4 +1,3 @@
-pub mod Adding
 pub mod Answers
-pub mod Judging
-pub mod Laws
+pub mod Cutting
+pub mod Walking

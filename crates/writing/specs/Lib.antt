@@ -1,1 +1,3 @@
-pub mod Capped
+pub mod Refusals
+pub mod Parts
+pub mod Listed

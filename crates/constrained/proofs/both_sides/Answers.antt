@@ -1,9 +1,5 @@
-use Rattle.std.proofs.Common.{rules}
-use Rattle.constrained.proofs.Groups.{laws}
+use Rattle.constrained.proofs.Groups.{side_run}
 use Rattle.constrained.proofs.both_sides.Goals as goal
 
-pub returns-in_default : goal.returns-in_default
-returns-in_default c = search (rules, laws)
-
 pub sides_from-requires : goal.sides_from-requires
-sides_from-requires c = search (rules, laws)
+sides_from-requires c = side_run c.args.s.now c.read_element.result c.read_element.ensures c.requires c.in-Ok.whole c.in-Ok.is

@@ -1,19 +1,11 @@
-use Rattle.std.proofs.Common.{rules, ◌≡◌, false}
-use Rattle.der.specs.Places.{found?}
-use Rattle.entries.proofs.Shapes.{none_found}
-use Rattle.constrained.proofs.Groups.{laws}
+use Rattle.constrained.proofs.Groups.{sides_excluded, sides_two}
 use Rattle.constrained.proofs.sides_from.Goals as goal
 
-pub returns-in_default : goal.returns-in_default
-returns-in_default c =
-    let none : found? c.read_element-e.result ≡ false = none_found c.read_element-e.result c.in_default.not-Found in
-    search (rules, laws)
-
-pub returns-then-tag : goal.returns-then-tag
-returns-then-tag c = search (rules, laws)
-
-pub content_at-second-requires-clause-at_le_end : goal.content_at-second-requires-clause-at_le_end
-content_at-second-requires-clause-at_le_end c = search (rules, laws)
+pub returns-then-element : goal.returns-then-element
+returns-then-element c =
+    sides_excluded c.args.s.now c.args.start c.args.end c.requires c.read_element.result c.read_element.ensures c.in-Ok.element c.in-Ok.is c.if-element.true
 
 pub returns : goal.returns
-returns c = search (rules, laws)
+returns c =
+    sides_two c.args.s.now c.args.start c.args.end c.requires c.read_element.result c.read_element.ensures c.in-Ok.element c.in-Ok.is c.if-element.false
+    c.content_at.result c.content_at.ensures

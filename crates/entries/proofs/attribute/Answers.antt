@@ -20,11 +20,5 @@ returns-in_err-value c = let oid = c.in_ok-oid.was in let value = c.in_err-value
 pub returns-then-value-end : goal.returns-then-value-end
 returns-then-value-end c = let oid = c.in_ok-oid.was in let value = c.in_ok-value.was in search (rules, attributes)
 
-pub is_cn_oid-cn-requires-clause-start_le_end : goal.is_cn_oid-cn-requires-clause-start_le_end
-is_cn_oid-cn-requires-clause-start_le_end c = let oid = c.in_ok-oid.was in search (rules, attributes)
-
-pub is_cn_oid-cn-requires-clause-end_in_bounds : goal.is_cn_oid-cn-requires-clause-end_in_bounds
-is_cn_oid-cn-requires-clause-end_in_bounds c = let oid = c.in_ok-oid.was in search (rules, attributes)
-
 pub returns : goal.returns
 returns c = let oid = c.in_ok-oid.was in let value = c.in_ok-value.was in search (rules, attributes)

@@ -26,11 +26,11 @@ returns-in_err-value c = let oid = c.in_ok-oid.was in let inner = c.in_ok-inner.
 pub returns-then-value-end : goal.returns-then-value-end
 returns-then-value-end c = let oid = c.in_ok-oid.was in let inner = c.in_ok-inner.was in let value = c.in_ok-value.was in search (rules, others)
 
-pub other_kind-requires-clause-start_le_end : goal.other_kind-requires-clause-start_le_end
-other_kind-requires-clause-start_le_end c = let oid = c.in_ok-oid.was in search (rules, others)
+pub slice_bounds-other_kind-count : goal.slice_bounds-other_kind-count
+slice_bounds-other_kind-count c = let oid = c.in_ok-oid.was in search (rules, others)
 
-pub other_kind-requires-clause-end_in_bounds : goal.other_kind-requires-clause-end_in_bounds
-other_kind-requires-clause-end_in_bounds c = let oid = c.in_ok-oid.was in search (rules, others)
+pub slice_bounds-other_kind-end : goal.slice_bounds-other_kind-end
+slice_bounds-other_kind-end c = let oid = c.in_ok-oid.was in search (rules, others)
 
 pub returns : goal.returns
 returns c = let oid = c.in_ok-oid.was in let inner = c.in_ok-inner.was in let value = c.in_ok-value.was in search (rules, others)

@@ -1,15 +1,14 @@
-use Rattle.std.proofs.Common.{rules}
-use Rattle.names.proofs.Laws.{laws}
+use Rattle.std.proofs.Common.{rules, tests}
+use Rattle.std.proofs.lemmas.Iterator.{YieldsList-from_slice}
+use Rattle.std.proofs.lemmas.Iterator.Search.{position_from_yields_List}
+use Rattle.octets.proofs.Cut.{found_is}
+use Rattle.names.specs.Label.{outside}
 use Rattle.names.proofs.run_length.Goals as goal
 
-pub loop-i-init : goal.loop-i-init
-loop-i-init c = search (rules, laws)
-
-pub returns-then-not-inside : goal.returns-then-not-inside
-returns-then-not-inside c = search (rules, laws)
-
-pub loop-i-preserved : goal.loop-i-preserved
-loop-i-preserved c = search (rules, laws)
-
 pub returns : goal.returns
-returns c = search (rules, laws)
+unfolding outside
+returns c =
+    found_is outside c.args.s.now c.position.result c.unwrap_or.result
+    (position_from_yields_List outside _ _ c.position.result c.position.ensures.ran (YieldsList-from_slice c.args.s.now cc)
+    (λ x b q k. search (rules, tests)))
+    (search rules)

@@ -1,24 +1,23 @@
-use Rattle.std.proofs.Common.{rules}
-use Rattle.names.proofs.Laws.{laws}
+use Rattle.std.proofs.Common.{rules, tests, length, take, drop, ◌-◌}
+use Rattle.std.proofs.lemmas.Iterator.{YieldsList-from_slice}
+use Rattle.std.proofs.lemmas.Iterator.Search.{all_from_yields_List}
+use Rattle.rules.specs.Names.{scheme_byte}
+use Rattle.names.proofs.Laws.{scheme_laws, scheme_rest}
+use Rattle.names.proofs.scheme.Goals.{then-is_empty-via-then-is_empty, then-is_empty-via-else-is_empty+then-s-gt63}
 use Rattle.names.proofs.scheme.Goals as goal
 
-pub returns-then-n-eq0 : goal.returns-then-n-eq0
-returns-then-n-eq0 c = search (rules, laws)
+pub returns-then-is_empty : goal.returns-then-is_empty
+returns-then-is_empty c =
+    elim c.then-is_empty.branch [
+      | then-is_empty-via-then-is_empty w ↦ search (rules, scheme_laws)
+      | then-is_empty-via-else-is_empty+then-s-gt63 w ↦ search (rules, scheme_laws)
+    ]
 
-pub returns-then-n-gt63 : goal.returns-then-n-gt63
-returns-then-n-gt63 c = search (rules, laws)
+pub returns-then-is_letter : goal.returns-then-is_letter
+returns-then-is_letter c =
+    scheme_rest c.args.s.now (search rules) (search rules) (search rules) c.all.result
+    (all_from_yields_List scheme_byte _ _ _ c.all.ensures.ran
+    (YieldsList-from_slice (take (length c.args.s.now - 1) (drop 1 c.args.s.now)) cc) (λ x b q k. search (rules, tests)))
 
-pub returns-then-not-letter : goal.returns-then-not-letter
-returns-then-not-letter c = search (rules, laws)
-
-pub loop-i-init : goal.loop-i-init
-loop-i-init c = search (rules, laws)
-
-pub returns-then-not-good : goal.returns-then-not-good
-returns-then-not-good c = search (rules, laws)
-
-pub loop-i-preserved : goal.loop-i-preserved
-loop-i-preserved c = search (rules, laws)
-
-pub returns : goal.returns
-returns c = search (rules, laws)
+pub returns-else-is_letter : goal.returns-else-is_letter
+returns-else-is_letter c = search (rules, scheme_laws)

@@ -1,44 +1,24 @@
 use Rattle.std.proofs.Common.{rules}
-use Rattle.strings.proofs.Counting.{next_within}
-use Rattle.strings.proofs.Sides.{sides_count, sides_sum, sides_next}
 use Rattle.strings.proofs.Laws.{sides_laws}
+use Rattle.strings.proofs.Counting.{next_within}
+use Rattle.strings.proofs.Sides.{sides_low, sides_high, sides_none, sides_count, sides_next}
+use Rattle.strings.proofs.count_sides.Goals.{then-side-low-via-then-side-low, then-side-low-via-else-side-low+then-side-gt161, then-side-low-via-else-side-low+else-side-gt161+then-side}
 use Rattle.strings.proofs.count_sides.Goals as goal
 
-pub returns-then-from-end : goal.returns-then-from-end
-returns-then-from-end c = search (rules, sides_laws, sides_sum)
+pub returns-in_err-side : goal.returns-in_err-side
+returns-in_err-side c = let e = c.in_err-side.was in search (rules, sides_laws)
 
-pub loop-at-init : goal.loop-at-init
-loop-at-init c = search (rules, sides_laws, sides_sum)
+pub returns-then-side-low : goal.returns-then-side-low
+returns-then-side-low c =
+    let e = c.in_ok-side.was in
+    elim c.then-side-low.branch [
+      | then-side-low-via-then-side-low w ↦ search (rules, sides_low)
+      | then-side-low-via-else-side-low+then-side-gt161 w ↦ search (rules, sides_high)
+      | then-side-low-via-else-side-low+else-side-gt161+then-side w ↦ search (rules, sides_none)
+    ]
 
-pub returns-in_default : goal.returns-in_default
-returns-in_default c = search (rules, sides_laws, sides_sum)
-
-pub count_side-c-requires-clause-from_le_end : goal.count_side-c-requires-clause-from_le_end
-count_side-c-requires-clause-from_le_end c = search (rules, sides_laws, sides_sum)
-
-pub count_side-c-requires-clause-end_in_bounds : goal.count_side-c-requires-clause-end_in_bounds
-count_side-c-requires-clause-end_in_bounds c = search (rules, sides_laws, sides_sum)
-
-pub returns-then-tag-low : goal.returns-then-tag-low
-returns-then-tag-low c = search (rules, sides_laws, sides_sum)
-
-pub returns-then-tag-gt161 : goal.returns-then-tag-gt161
-returns-then-tag-gt161 c = search (rules, sides_laws, sides_sum)
-
-pub returns-then-start-next : goal.returns-then-start-next
-returns-then-start-next c = search (rules, sides_laws, sides_sum)
-
-pub returns-in_default-c : goal.returns-in_default-c
-returns-in_default-c c = search (rules, sides_laws, sides_sum)
-
-pub overflow_add-k : goal.overflow_add-k
-overflow_add-k c = search (rules, sides_laws, sides_sum)
-
-pub loop-at-smaller : goal.loop-at-smaller
-loop-at-smaller c = search (rules, sides_laws, sides_sum)
+pub returns-in_err-k : goal.returns-in_err-k
+returns-in_err-k c = let e = c.in_ok-side.was in let k = c.in_err-k.was in search (rules, sides_laws)
 
 pub loop-at-preserved : goal.loop-at-preserved
-loop-at-preserved c = (search next_within, search sides_count, search rules, search sides_next)
-
-pub returns : goal.returns
-returns c = search (rules, sides_laws, sides_sum)
+loop-at-preserved c = let e = c.in_ok-side.was in let k = c.in_ok-k.was in (search next_within, search sides_count, search rules, search sides_next)

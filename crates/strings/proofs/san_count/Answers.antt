@@ -2,17 +2,8 @@ use Rattle.std.proofs.Common.{rules}
 use Rattle.strings.proofs.Laws.{outer_laws}
 use Rattle.strings.proofs.san_count.Goals as goal
 
-pub returns-in_default : goal.returns-in_default
-returns-in_default c = search (rules, outer_laws)
-
-pub returns-then-next-end : goal.returns-then-next-end
-returns-then-next-end c = search (rules, outer_laws)
-
-pub returns-then-start-end : goal.returns-then-start-end
-returns-then-start-end c = search (rules, outer_laws)
-
-pub count_names-requires-clause-from_le_end : goal.count_names-requires-clause-from_le_end
-count_names-requires-clause-from_le_end c = search (rules, outer_laws)
+pub returns-then-start-s : goal.returns-then-start-s
+returns-then-start-s c = let e = c.in_ok-start.was in search (rules, outer_laws)
 
 pub returns : goal.returns
-returns c = search (rules, outer_laws)
+returns c = let e = c.in_ok-start.was in search (rules, outer_laws)

@@ -28,6 +28,6 @@ returns g c =
       | else-loop-at-test w ↦ search (rules, last_end)
       | then-loop-at-test+else-not-clear4+else-last-at-gt32 w ↦
           near_end (clear? g.row.BITS) c.args.s.now c.args.start c.args.end c.requires.end_in_bounds (c.args.end - 32) c.loop-at.at
-          (omega arith) (omega arith) (omega arith) (omega arith) c.clear4-2.result w.clear4-in-loop-at.result
-          c.loop-at.invariant.3 (omega arith) w.clear4-in-loop-at.ensures w.if-not-clear4.false c.clear4-2.ensures
+          (omega arith) c.loop-at.invariant.3 (omega arith) (omega arith) (omega arith) w.clear4-in-loop-at.result
+          w.clear4-in-loop-at.ensures w.if-not-clear4.false c.clear4-2.result c.clear4-2.ensures
     ]

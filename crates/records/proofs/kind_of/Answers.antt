@@ -1,6 +1,0 @@
-use Rattle.std.proofs.Common.{rules}
-use Rattle.records.proofs.Laws.{laws}
-use Rattle.records.proofs.kind_of.Goals as goal
-
-pub returns : goal.returns
-returns c = search (rules, laws)
