@@ -13,7 +13,7 @@ use Rattle.octets.proofs.Compare.{text_length_lem}
 use Rattle.octets.proofs.Parts.{rest_is}
 use Rattle.words.specs.Words.{Number, value, folded}
 use Rattle.words.proofs.Case.{same_folded, folded_value, same_slice}
-use Rattle.dns.proofs.Matching.{wild}
+use Rattle.dns.proofs.Matching.{wild, wild_is}
 use Rattle.filter.specs.Keys.{byte_at, halves, word_at, sum_of, spread, key_of, noted_text}
 
 -- ---- one key for texts that are the same without case
@@ -79,6 +79,9 @@ module _ (s : List ℕ) where
 
   -- the text by which a dNSName is noted
   module _ (w : Bool) (is_wild : w ≡ wild s) where
+    pub wild_long : w ≡ true → 2 ≤ length s
+    wild_long e = rw (wild_is s (sym is_wild ∙ e)) (omega arith)
+
     pub noted_wild : w ≡ true → (r : ℕ) → r ≡ key_of (take (length s - 2) (drop 2 s)) → r ≡ key_of (noted_text s)
     unfolding noted_text
     noted_wild e r f = rw (← is_wild, e) (rw (rest_is s 2) at f)

@@ -1,17 +1,16 @@
 // A filter before the search for the first pair: the keys of a SAN's dNSNames, noted in a table in one walk, so that a reference that no
 // dNSName can match is not held against each of them.
-#![tactic(auto)]
+#![tactic(auto, using(crate::proofs::Laws::laws))]
 
 ghost use Rattle.std.specs.Prelude.{◌+◌, ◌≤◌, ◌<◌, ◌^◌, ◌%◌, ◌≡◌, true, length};
-ghost use Rattle.rules.specs.Bytes.{before};
-ghost use Rattle.rules.specs.Names.{is, dot};
 ghost use Rattle.reading.specs.Strings.{read_name, read_san};
 ghost use Rattle.der.specs.Runs.{Run, validated, names_of, items_in};
-ghost use Rattle.filter.specs.Keys.{keys, table_size, byte_at, word_at, sum_of, key_of, noted_text, has, has_all, may_match};
+ghost use Rattle.filter.specs.Keys.{keys, byte_at, word_at, sum_of, key_of, noted_text, has, has_all, may_match};
 
-use der::{Element, element_end, read_element};
+use der::{element_end, read_element};
 use dns::begins_wild;
 use entries::tagged_text;
+use octets::Dotted;
 use words::{long, word};
 
 // How many keys there are, and the bytes of a table with a bit for each.
@@ -43,17 +42,12 @@ fn word_at(s: &[u8], at: usize) -> u64
 fn sum_of(s: &[u8]) -> u64
     ensures { result ≡ sum_of s.now }
 {
-    let n = s.len();
-    if n < 2 {
-        return 0;
+    match s.len() {
+        0 | 1 => 0,
+        n @ 2..=7 => byte_at(s, 0) + byte_at(s, 1) * 0x100 + byte_at(s, n - 1) * 0x10000,
+        n @ 8..=15 => word_at(s, 0) + word_at(s, n - 8) * 3,
+        n => word_at(s, 0) + word_at(s, 8) * 3 + word_at(s, n - 16) * 5,
     }
-    if n < 8 {
-        return byte_at(s, 0) + byte_at(s, 1) * 0x100 + byte_at(s, n - 1) * 0x10000;
-    }
-    if n < 16 {
-        return word_at(s, 0) + word_at(s, n - 8) * 3;
-    }
-    word_at(s, 0) + word_at(s, 8) * 3 + word_at(s, n - 16) * 5
 }
 
 // The key of a text: texts that are the same without case have the same.
@@ -68,17 +62,16 @@ fn key(s: &[u8]) -> usize
 fn name_key(text: &[u8]) -> usize
     ensures { (result ≡ key_of (noted_text text.now)) × (result < keys) }
 {
-    let wild = begins_wild(text);
-    if wild {
-        return key(&text[2..]);
+    if begins_wild(text) {
+        key(&text[2..])
+    } else {
+        key(text)
     }
-    key(text)
 }
 
 // Whether a key is noted.
-fn is_noted(table: &[u8], k: usize) -> bool
-    requires table_len { length table.now ≡ table_size }
-    requires k_lt_keys { k < keys }
+fn is_noted(table: &[u8; TABLE_SIZE], k: usize) -> bool
+    requires { k < keys }
     ensures { result ≡ has table.now k }
 {
     (table[k / 8] >> (k % 8)) % 2 == 1
@@ -92,56 +85,39 @@ fn bit(k: usize) -> u8
 }
 
 // The keys of the dNSNames among the entries from `start` to `end` are noted; what is noted already stays.
-fn note_in(san: &[u8], start: usize, end: usize, table: &mut [u8])
-    requires run { Run read_name san.now start end }
-    requires table_len { length table.old ≡ table_size }
+#[tactic(auto, using(entries::proofs::Steps::steps, entries::proofs::Steps::names, crate::proofs::Laws::walk))]
+fn note_in(san: &[u8], start: usize, end: usize, table: &mut [u8; TABLE_SIZE])
+    requires { Run read_name san.now start end }
     ensures { has_all table.new (items_in read_name san.now start end) ≡ true }
 {
     let mut at = start;
     while at < end {
         let next = element_end(san, at, end);
-        let text = tagged_text(san, at, next, 0x82);
-        if text <= next {
+        if let Some(text) = tagged_text(san, at, next, 0x82) {
             let k = name_key(&san[text..next]);
-            table[k / 8] = table[k / 8] | bit(k);
+            table[k / 8] |= bit(k);
         }
         at = next;
     }
 }
 
 // The keys of a SAN's dNSNames are noted, in one walk.
-pub fn note(san: &[u8], table: &mut [u8])
-    requires san_value { validated read_san san.now ≡ true }
-    requires table_len { length table.old ≡ table_size }
+#[tactic(auto, using(crate::proofs::Laws::whole))]
+pub fn note(san: &[u8], table: &mut [u8; TABLE_SIZE])
+    requires { validated read_san san.now ≡ true }
     ensures { has_all table.new (names_of read_san san.now) ≡ true }
 {
-    let end = san.len();
-    let e = read_element(san, 0, end);
-    let Element::Found {
-        tag: _,
-        start,
-        next: _,
-    } = e
-    else {
-        return;
-    };
-    note_in(san, start, end, table)
+    if let Ok(element) = read_element(san, 0, san.len()) {
+        note_in(san, element.start, san.len(), table);
+    }
 }
 
-// Whether a dNSName that is noted may match the domain of a reference, whose first dot stands at `first`.
-pub fn may_match(table: &[u8], domain: &[u8], first: usize) -> bool
-    requires table_len { length table.now ≡ table_size }
-    requires first_value { (first ≡ length (before (is dot) domain.now)) × (first ≤ length domain.now) }
-    ensures { result ≡ may_match table.now domain.now }
+// Whether a dNSName that is noted may match the domain of a reference.
+pub fn may_match(table: &[u8; TABLE_SIZE], domain: Dotted<'_>) -> bool
+    ensures { result ≡ may_match table.now domain.entry.text.now }
 {
-    let k = key(domain);
-    let noted = is_noted(table, k);
-    if noted {
-        return true;
-    }
-    if domain.len() <= first {
-        return false;
-    }
-    let rest = key(&domain[first + 1..]);
-    is_noted(table, rest)
+    is_noted(table, key(domain.text))
+        || domain
+            .past_dot()
+            .is_some_and(|rest| is_noted(table, key(rest)))
 }

@@ -1,13 +1,14 @@
 -- What the functions on SAN entries return, by their own tests.
-use Prim.Native.Nat.{ℕ, ◌+◌, ◌-◌, ◌≤◌, ◌<◌}
-use mathlib.Core.Path.{◌≡◌, refl, sym, ◌∙◌}
+use Prim.Native.Nat.{ℕ, ◌≤◌, ◌<◌}
+use mathlib.Core.Path.{◌≡◌, refl, sym, ap, ◌∙◌}
 use mathlib.Core.Bool.{Bool, true, false, ◌||◌}
 use mathlib.Core.Option.{Option, none, some}
 use mathlib.Core.List.{List}
 use native.Mathlib.Omega.{arith}
 use lib.ListN.{length}
-use lib.Dec.{eqb, leb}
-use borrow.Author.Tests.{ne_eqb, le-leb, lt-leb}
+use lib.Dec.{eqb}
+use Rattle.std.specs.Prelude as std
+use Rattle.std.specs.Prelude.{Some, None}
 use Rattle.octets.proofs.Cases.{by_cases}
 use Rattle.rules.specs.Bytes.{any, same}
 use Rattle.rules.specs.San.{GeneralName, plain, other, srv_oid}
@@ -23,25 +24,23 @@ use Rattle.presented.specs.Presented.{first_set}
 
 -- ---- the text that an entry presents
 
-module _ (s : List ℕ) (at end kind r : ℕ) where
-  pub text_dns : kind ≡ 1 → r ≡ text_place (tagged_text 0x82) s at end → r ≡ text_place (entry_text kind) s at end
-  unfolding entry_text
-  text_dns e f = rw e f
-
-  pub text_srv : kind ≡ 2 → r ≡ text_place srv_text s at end → r ≡ text_place (entry_text kind) s at end
-  unfolding entry_text
-  text_srv e f = rw e f
-
-  pub text_uri : kind ≡ 3 → r ≡ text_place (tagged_text 0x86) s at end → r ≡ text_place (entry_text kind) s at end
-  unfolding entry_text
-  text_uri e f = rw e f
-
--- to any other reference it presents none
-pub text_other : (s : List ℕ) (at end kind : ℕ) → is_some (whole_at s at end) ≡ true → (kind ≡ 1 → ⊥) → (kind ≡ 2 → ⊥) → (kind ≡ 3 → ⊥)
-    → end + 1 ≡ text_place (entry_text kind) s at end
+-- to a CN reference it presents none
+pub text_none : (s : List ℕ) (at end : ℕ) → is_some (whole_at s at end) ≡ true → None ≡ text_place (entry_text 4) s at end
 unfolding entry_text text_place place_text
-text_other s at end kind valid d v u =
-    some_of (whole_at s at end) valid λ m p. rw (p, ne_eqb kind 1 d, ne_eqb kind 2 v, ne_eqb kind 3 u)
+text_none s at end valid = some_of (whole_at s at end) valid λ m p. rw p
+
+-- to another it presents what its own reader finds
+pub text_dns : (s : List ℕ) (at end : ℕ) (r : std.Option ℕ) → r ≡ text_place (tagged_text 0x82) s at end → r ≡ text_place (entry_text 1) s at end
+unfolding entry_text
+text_dns s at end r e = e
+
+pub text_srv : (s : List ℕ) (at end : ℕ) (r : std.Option ℕ) → r ≡ text_place srv_text s at end → r ≡ text_place (entry_text 2) s at end
+unfolding entry_text
+text_srv s at end r e = e
+
+pub text_uri : (s : List ℕ) (at end : ℕ) (r : std.Option ℕ) → r ≡ text_place (tagged_text 0x86) s at end → r ≡ text_place (entry_text 3) s at end
+unfolding entry_text
+text_uri s at end r e = e
 
 -- ---- whether it keeps CN references from counting
 
@@ -53,34 +52,35 @@ blocks_is (plain t c) =
 blocks_is (other o t c) = by_cases (same o srv_oid) (λ e. rw e) (λ e. rw e)
 
 module _ (s : List ℕ) (at end : ℕ) (valid : is_some (whole_at s at end) ≡ true) where
-  -- its text starts before its end just where there is one
-  presents_is : (kind r : ℕ) → r ≡ text_place (entry_text kind) s at end → (m : GeneralName) → whole_at s at end ≡ some m → leb r end ≡ is_some (entry_text kind m)
+  -- its text has a place just where there is one
+  presents_is : (kind : ℕ) (r : std.Option ℕ) → r ≡ text_place (entry_text kind) s at end → (m : GeneralName) → whole_at s at end ≡ some m → std.is_some r ≡ is_some (entry_text kind m)
   unfolding text_place place_text
-  presents_is kind r r_is m p = go (entry_text kind m) refl
+  presents_is kind r r_is m p = ap std.is_some r_is ∙ rw p (go (entry_text kind m))
     where
-      go : (o : Option (List ℕ)) → entry_text kind m ≡ o → leb r end ≡ is_some o
-      go none q = let e : r ≡ end + 1 = rw (p, q) at r_is in lt-leb r end (omega arith)
-      go (some c) q = let e : r ≡ end - length c = rw (p, q) at r_is in le-leb r end (omega arith)
+      go : (o : Option (List ℕ)) → std.is_some (place_text end o) ≡ is_some o
+      go none = refl
+      go (some c) = refl
 
-  module _ (d : ℕ) (d_is : d ≡ text_place (entry_text 1) s at end) where
-    pub blocks_dns : d ≤ end → true ≡ if_some (whole_at s at end) blocks_cn
+  module _ (d : std.Option ℕ) (d_is : d ≡ text_place (entry_text 1) s at end) where
+    pub blocks_dns : std.is_some d ≡ true → true ≡ if_some (whole_at s at end) blocks_cn
     blocks_dns h =
         some_of (whole_at s at end) valid λ m p.
-        let e = sym (presents_is 1 d d_is m p) ∙ le-leb d end h in
+        let e = sym (presents_is 1 d d_is m p) ∙ h in
         rw (p, blocks_is m, e)
 
-    module _ (u : ℕ) (u_is : u ≡ text_place (entry_text 3) s at end) where
-      pub blocks_uri : u ≤ end → true ≡ if_some (whole_at s at end) blocks_cn
+    module _ (u : std.Option ℕ) (u_is : u ≡ text_place (entry_text 3) s at end) where
+      pub blocks_uri : std.is_some u ≡ true → true ≡ if_some (whole_at s at end) blocks_cn
       blocks_uri h =
           some_of (whole_at s at end) valid λ m p.
-          let e = sym (presents_is 3 u u_is m p) ∙ le-leb u end h in
+          let e = sym (presents_is 3 u u_is m p) ∙ h in
           rw (p, blocks_is m, e) (by_cases (is_some (entry_text 1 m)) (λ f. rw f) (λ f. rw f))
 
-      pub blocks_srv : end < d → end < u → (v : ℕ) → v ≡ text_place (entry_text 2) s at end → leb v end ≡ if_some (whole_at s at end) blocks_cn
+      pub blocks_srv : std.is_some d ≡ false → std.is_some u ≡ false → (v : std.Option ℕ) → v ≡ text_place (entry_text 2) s at end
+          → std.is_some v ≡ if_some (whole_at s at end) blocks_cn
       blocks_srv h k v v_is =
           some_of (whole_at s at end) valid λ m p.
-          let e = sym (presents_is 1 d d_is m p) ∙ lt-leb d end h in
-          let f = sym (presents_is 3 u u_is m p) ∙ lt-leb u end k in
+          let e = sym (presents_is 1 d d_is m p) ∙ h in
+          let f = sym (presents_is 3 u u_is m p) ∙ k in
           presents_is 2 v v_is m p ∙ rw (p, blocks_is m, e, f)
 
 -- ---- whether any entry does

@@ -1,9 +1,10 @@
 // The identifiers that a certificate presents: the text of a SAN entry, and what an RDN set of the subject presents. The strings were
 // found readable before; all that is judged again here is an attribute, for its kind and the place of its value.
-#![tactic(auto)]
+#![tactic(auto, using(crate::proofs::Laws::laws))]
 
 ghost use Rattle.std.specs.Prelude.{◌+◌, ◌≤◌, ◌<◌, ◌≡◌, true, length};
 ghost use Rattle.rules.specs.Bytes.{any};
+ghost use Rattle.rules.specs.Numbers.{kind_number};
 ghost use Rattle.rules.specs.Matching.{entry_text, blocks_cn, if_some};
 ghost use Rattle.reading.specs.Reader.{is_some};
 ghost use Rattle.reading.specs.Strings.{read_san, read_attribute, read_set};
@@ -11,74 +12,81 @@ ghost use Rattle.der.specs.Places.{element_at, found?};
 ghost use Rattle.der.specs.Reads.{Read};
 ghost use Rattle.der.specs.Runs.{Run, validated, names_of, content_start};
 ghost use Rattle.entries.specs.Entries.{whole_at, text_place};
-ghost use Rattle.presented.specs.Presented.{silent_at, shown_at, attribute_at, with_cn, set_at, first_set};
+ghost use Rattle.presented.specs.Presented.{shown_at, attribute_at, with_cn, sole, set_at, first_set};
 
 use der::{Element, element_end, read_element};
-use entries::{Name, attribute, srv_text, tagged_text};
-use rules::{DNS, Place, SRV, URI};
+use entries::{OTHER_CN, TEXT_CN, attribute, srv_text, tagged_text};
+use rules::{Kind, Place};
 
-// An RDN set, as CN references meet it.
+// An identifier: where its DER element lies, of a CN the attribute's SEQUENCE, and where its text lies.
+#[derive(Clone, Copy)]
+pub struct Identifier {
+    pub element: Place,
+    pub text: Place,
+}
+
+// An RDN set, as CN references meet it: what it presents to them, and where the next set starts.
 #[derive(Clone, Copy)]
 pub struct Entry {
-    // Whether it presents a text to them.
-    pub presents: bool,
-    // Where its DER element lies: the attribute's SEQUENCE.
-    pub element: Place,
-    // Where its text lies.
-    pub text: Place,
-    // Where the next set starts.
+    pub identifier: Option<Identifier>,
     pub next: usize,
 }
 
-// The header of an element: its tag, where its content starts, and where the next element would start.
+// What an attribute is to its set.
 #[derive(Clone, Copy)]
-struct Header {
-    tag: u8,
-    start: usize,
-    next: usize,
+enum Role {
+    // A CN, with what it presents if it is the only one of the set: nothing, where its tag is not 0C, 13 or 16.
+    Cn(Option<Identifier>),
+    Other,
 }
 
-// An attribute: whether it is a CN; what it then presents if it is the only one of its set; where the next starts.
+// An attribute, and where the next starts.
 #[derive(Clone, Copy)]
 struct Typed {
-    cn: bool,
-    alone: Entry,
+    role: Role,
     next: usize,
 }
 
-// The CNs of a set: 0, 1, or 2 for more; and what the last of them presents if it is the only one.
+// The CNs of a set: none; one, with what it presents; or more.
 #[derive(Clone, Copy)]
-struct Sole {
-    count: usize,
-    entry: Entry,
+enum Cns {
+    Zero,
+    One(Option<Identifier>),
+    More,
 }
 
-// Nothing is presented.
-fn silent(next: usize) -> Entry
-    ensures { result ≡ silent_at next }
-{
-    Entry {
-        presents: false,
-        element: Place {
-            start: 0,
-            length: 0,
-        },
-        text: Place {
-            start: 0,
-            length: 0,
-        },
-        next: next,
+impl Cns {
+    // The CNs of a set, with one attribute more.
+    #[tactic(auto, unfolding(crate::specs::Presented::with_cn))]
+    fn with(self, role: Role) -> Cns
+        ensures { result ≡ with_cn self role }
+    {
+        match (self, role) {
+            (cns, Role::Other) => cns,
+            (Cns::Zero, Role::Cn(alone)) => Cns::One(alone),
+            (_, Role::Cn(_)) => Cns::More,
+        }
+    }
+
+    // "in a set that has exactly one CN attribute, whatever the tags"
+    #[tactic(auto, unfolding(crate::specs::Presented::sole))]
+    fn sole(self) -> Option<Identifier>
+        ensures { result ≡ sole self }
+    {
+        match self {
+            Cns::One(alone) => alone,
+            Cns::Zero | Cns::More => None,
+        }
     }
 }
 
 // The identifier whose element starts at `at` and whose text starts at `text`: both end at `next`.
-fn shown(at: usize, text: usize, next: usize) -> Entry
+pub fn shown(at: usize, text: usize, next: usize) -> Identifier
     requires at_le_next { at ≤ next }
     requires text_le_next { text ≤ next }
     ensures { result ≡ shown_at at text next }
 {
-    Entry {
-        presents: true,
+    Identifier {
         element: Place {
             start: at,
             length: next - at,
@@ -87,174 +95,97 @@ fn shown(at: usize, text: usize, next: usize) -> Entry
             start: text,
             length: next - text,
         },
-        next: next,
     }
 }
 
-// The header of the element at a place where one is known to be.
-fn header_at(s: &[u8], at: usize, end: usize) -> Header
+// The element at a place where one is known to be.
+#[tactic(auto, using(crate::proofs::Laws::reading))]
+fn known_element(s: &[u8], at: usize, end: usize) -> Element
     requires at_le_end { at ≤ end }
     requires end_in_bounds { end ≤ length s.now }
     requires end_value { found? (element_at s.now at end) ≡ true }
     ensures { Read s.now at end result.tag result.start result.next }
 {
-    let e = read_element(s, at, end);
-    let Element::Found { tag, start, next } = e else {
-        return Header {
-            tag: 0,
-            start: end,
-            next: end,
-        };
-    };
-    Header {
-        tag: tag,
-        start: start,
-        next: next,
-    }
+    read_element(s, at, end).unwrap()
 }
 
-// The attribute at a place of a set that ends at `end`: kind 10 in the listing is a CN with tag 0C, 13 or 16, 11 another CN.
+// The attribute at a place of a set that ends at `end`.
+#[tactic(auto, using(crate::proofs::Laws::attributes))]
 fn attribute_at(s: &[u8], at: usize, end: usize) -> Typed
     requires at_lt_end { at < end }
     requires run { Run read_attribute s.now at end }
     ensures { result ≡ attribute_at s.now at end }
 {
-    let a = header_at(s, at, end);
-    let next = a.next;
-    let n = attribute(s, a.tag, a.start, next);
-    let nothing = silent(next);
-    let Name::Is { kind, tag: _, text } = n else {
-        return Typed {
-            cn: false,
-            alone: nothing,
-            next: next,
-        };
+    let Element { tag, start, next } = known_element(s, at, end);
+    let role = match attribute(s, tag, start, next) {
+        Ok(name) if name.kind == TEXT_CN => Role::Cn(Some(shown(at, name.text, next))),
+        Ok(name) if name.kind == OTHER_CN => Role::Cn(None),
+        _ => Role::Other,
     };
-    if kind == 10 {
-        let alone = shown(at, text, next);
-        return Typed {
-            cn: true,
-            alone: alone,
-            next: next,
-        };
-    }
-    Typed {
-        cn: kind == 11,
-        alone: nothing,
-        next: next,
-    }
-}
-
-// The CNs of a set, with one attribute more.
-fn with_cn(c: Sole, a: Typed) -> Sole
-    ensures { result ≡ with_cn c a }
-{
-    if a.cn {
-        let alone = a.alone;
-        if c.count == 0 {
-            return Sole {
-                count: 1,
-                entry: alone,
-            };
-        }
-        return Sole {
-            count: 2,
-            entry: alone,
-        };
-    }
-    c
+    Typed { role, next }
 }
 
 // "CN-ID: .. the value of an attribute of type CN, tag 0C, 13 or 16, in a set that has exactly one CN attribute, whatever the tags."
+#[tactic(auto, using(crate::proofs::Laws::sets))]
 pub fn set_at(subject: &[u8], at: usize) -> Entry
     requires at_in_bounds { at < length subject.now }
     requires run { Run read_set subject.now at (length subject.now) }
     ensures { result ≡ set_at subject.now at }
 {
-    let end = subject.len();
-    let e = header_at(subject, at, end);
-    let next = e.next;
-    let mut p = e.start;
-    let nothing = silent(p);
-    let mut c = Sole {
-        count: 0,
-        entry: nothing,
-    };
-    while p < next {
-        let a = attribute_at(subject, p, next);
-        c = with_cn(c, a);
+    let set = known_element(subject, at, subject.len());
+    let mut cns = Cns::Zero;
+    let mut p = set.start;
+    while p < set.next {
+        let a = attribute_at(subject, p, set.next);
+        cns = cns.with(a.role);
         p = a.next;
     }
-    if c.count == 1 {
-        let element = c.entry.element;
-        let text = c.entry.text;
-        return Entry {
-            presents: c.entry.presents,
-            element: element,
-            text: text,
-            next: next,
-        };
+    Entry {
+        identifier: cns.sole(),
+        next: set.next,
     }
-    silent(next)
 }
 
 // Where the first entry or set of a validated string stands; 0 in an absent string.
 pub fn names_start(s: &[u8]) -> usize
     ensures { result ≡ content_start s.now }
 {
-    let end = s.len();
-    let e = read_element(s, 0, end);
-    let Element::Found {
-        tag: _,
-        start,
-        next: _,
-    } = e
-    else {
-        return 0;
-    };
-    start
+    match read_element(s, 0, s.len()) {
+        Ok(element) => element.start,
+        Err(_) => 0,
+    }
 }
 
-// Where the text starts that the SAN entry from `at` to `end` presents to references of a kind; past the end where it presents none. "A
-// reference matches only its own kind."
-pub fn entry_text(san: &[u8], at: usize, end: usize, kind: u8) -> usize
+// Where the text starts that the SAN entry from `at` to `end` presents to references of a kind. "A reference matches only its own kind."
+pub fn entry_text(san: &[u8], at: usize, end: usize, kind: Kind) -> Option<usize>
     requires at_bound { at + 2 ≤ end }
     requires end_in_bounds { end ≤ length san.now }
     requires end_value { is_some (whole_at san.now at end) ≡ true }
-    ensures { result ≡ text_place (entry_text kind) san.now at end }
+    ensures { result ≡ text_place (entry_text (kind_number kind)) san.now at end }
 {
-    if kind == DNS {
-        return tagged_text(san, at, end, 0x82);
+    match kind {
+        Kind::Dns => tagged_text(san, at, end, 0x82),
+        Kind::Srv => srv_text(san, at, end),
+        Kind::Uri => tagged_text(san, at, end, 0x86),
+        Kind::Cn => None,
     }
-    if kind == SRV {
-        return srv_text(san, at, end);
-    }
-    if kind == URI {
-        return tagged_text(san, at, end, 0x86);
-    }
-    end + 1
 }
 
 // Whether an entry of the SAN keeps CN references from counting: it is presented to references of some kind, "readable as a name or not".
+#[tactic(auto, using(crate::proofs::Laws::blocking))]
 fn blocks(san: &[u8], at: usize, end: usize) -> bool
     requires at_bound { at + 2 ≤ end }
     requires end_in_bounds { end ≤ length san.now }
     requires end_value { is_some (whole_at san.now at end) ≡ true }
     ensures { result ≡ if_some (whole_at san.now at end) blocks_cn }
 {
-    let dns = entry_text(san, at, end, DNS);
-    if dns <= end {
-        return true;
-    }
-    let uri = entry_text(san, at, end, URI);
-    if uri <= end {
-        return true;
-    }
-    let srv = entry_text(san, at, end, SRV);
-    srv <= end
+    entry_text(san, at, end, Kind::Dns).is_some()
+        || entry_text(san, at, end, Kind::Uri).is_some()
+        || entry_text(san, at, end, Kind::Srv).is_some()
 }
 
 // Whether any does.
+#[tactic(auto, using(entries::proofs::Steps::steps, entries::proofs::Steps::names, crate::proofs::Laws::walk))]
 fn blocks_cn(san: &[u8]) -> bool
     requires { validated read_san san.now ≡ true }
     ensures { result ≡ any blocks_cn (names_of read_san san.now) }
@@ -263,8 +194,7 @@ fn blocks_cn(san: &[u8]) -> bool
     let mut at = names_start(san);
     while at < end {
         let next = element_end(san, at, end);
-        let blocked = blocks(san, at, next);
-        if blocked {
+        if blocks(san, at, next) {
             return true;
         }
         at = next;
@@ -278,8 +208,7 @@ pub fn first_set(san: &[u8], subject: &[u8]) -> usize
     requires { validated read_san san.now ≡ true }
     ensures { result ≡ first_set san.now subject.now }
 {
-    let blocked = blocks_cn(san);
-    if blocked {
+    if blocks_cn(san) {
         return subject.len();
     }
     names_start(subject)

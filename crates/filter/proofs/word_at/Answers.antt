@@ -1,6 +1,0 @@
-use Rattle.std.proofs.Common.{rules}
-use Rattle.filter.proofs.Laws.{laws}
-use Rattle.filter.proofs.word_at.Goals as goal
-
-pub returns : goal.returns
-returns c = search (rules, laws)
