@@ -26,15 +26,6 @@ use Rattle.entries.proofs.Shapes.{shape_other}
 -- ---- tags
 
 module _ (t : ℕ) where
-  pub text_81 : t ≡ 0x81 → true ≡ text_tag t
-  text_81 e = rw e
-
-  pub text_82 : t ≡ 0x82 → true ≡ text_tag t
-  text_82 e = rw e
-
-  pub text_86 : (t ≡ 0x81 → ⊥) → (t ≡ 0x82 → ⊥) → eqb t 0x86 ≡ text_tag t
-  text_86 e f = rw (ne_eqb t 0x81 e, ne_eqb t 0x82 f)
-
   pub sealed_87 : t ≡ 0x87 → true ≡ sealed_tag t
   sealed_87 e = rw e
 

@@ -3,7 +3,7 @@
 #![tactic(auto, using(crate::proofs::Laws::laws))]
 
 ghost use Rattle.std.specs.Prelude.{◌+◌, ◌≤◌, ◌≡◌, true, length, get_or};
-ghost use Rattle.rules.specs.San.{srv_oid, text_tag, sealed_tag, good_srv_name};
+ghost use Rattle.rules.specs.San.{srv_oid, sealed_tag, good_srv_name};
 ghost use Rattle.rules.specs.Matching.{srv_text, tagged_text};
 ghost use Rattle.reading.specs.Reader.{is_some, raw};
 ghost use Rattle.reading.specs.Strings.{read_name};
@@ -164,13 +164,6 @@ pub fn subtree_shape(s: &[u8], tag: u8, start: usize, end: usize) -> Result<Name
     name_shape(s, name.tag, name.start, end)
 }
 
-// "81, 82, 86"
-fn is_text_tag(tag: u8) -> bool
-    ensures { result ≡ text_tag tag }
-{
-    matches!(tag, 0x81 | 0x82 | 0x86)
-}
-
 // "87, 88, A3, A4, A5"
 fn is_sealed_tag(tag: u8) -> bool
     ensures { result ≡ sealed_tag tag }
@@ -203,7 +196,10 @@ fn good_plain(tag: u8, content: &[u8]) -> bool
     requires { tag ≡ 0xA0 → ⊥ }
     ensures { result ≡ is_some (read_name (raw tag content.now)) }
 {
-    is_sealed_tag(tag) || is_text_tag(tag) && ascii(content)
+    match tag {
+        0x81 | 0x82 | 0x86 => ascii(content),
+        _ => is_sealed_tag(tag),
+    }
 }
 
 // Whether a GeneralName is readable. Those of a subtree ask `good_plain`, so that the compiler writes this into the one loop that calls it.

@@ -1,220 +1,147 @@
 // The first pair of a reference and a presented identifier that match: lowest reference, then lowest name.
-#![tactic(auto)]
+#![tactic(auto, using(crate::proofs::Laws::laws))]
 
-ghost use Rattle.std.specs.Prelude.{◌+◌, ◌≤◌, ◌<◌, ◌/◌, ◌≡◌, true, false, [], length, drop};
-ghost use Rattle.rules.specs.Bytes.{before};
-ghost use Rattle.rules.specs.Names.{dot, is};
-ghost use Rattle.rules.specs.Numbers.{record_size, cn_kind};
-ghost use Rattle.rules.specs.Records.{reference, good_reference, good_records, references_of};
+ghost use Rattle.std.specs.Prelude.{◌+◌, ◌≤◌, ◌<◌, ◌/◌, ◌≡◌, true, length, drop, MatchOption, ⊤};
+ghost use Rattle.rules.specs.Bytes.{part};
+ghost use Rattle.rules.specs.Numbers.{record_size, cn_kind, kind_number};
+ghost use Rattle.rules.specs.Records.{reference, good_records, references_of};
 ghost use Rattle.rules.specs.Matching.{presented_to, text_matches, first_pair};
-ghost use Rattle.rules.specs.Verdict.{matched_or};
+ghost use Rattle.rules.specs.declared.Kind.TheVariants.{Cn};
 ghost use Rattle.reading.specs.Strings.{read_san, read_subject};
 ghost use Rattle.der.specs.Runs.{validated, names_of};
-ghost use Rattle.presented.specs.Presented.{shown_at};
-ghost use Rattle.records.specs.References.{reference_at};
-ghost use Rattle.pairs.specs.Pairs.{text_at, entry_matches, witness_at, found_for, found_between, held_by, first_entry, Filters, HeldFits, OutcomeFits};
+ghost use Rattle.pairs.specs.Pairs.{witness_at, found_for, found_between, held_by, first_entry, Filters, HeldFits, SetFits};
 
 use der::element_end;
 use filter::{TABLE_SIZE, may_match, note};
-use presented::{Entry, entry_text, first_set, names_start, set_at};
-use records::{domain_of, kind_of, service_of};
-use rules::{CN, DNS, Outcome, Place, RECORD_SIZE, SRV, URI, Witness};
+use presented::{Identifier, entry_text, first_set, names_start, set_at, shown};
+use records::{Reference, reference_at};
+use rules::{Kind, Place, RECORD_SIZE, Witness};
 
-// The witness of the first identifier that matches, if one does.
-#[derive(Clone, Copy)]
-enum Held {
-    By(Witness),
-    Nothing,
-}
-
-// Whether a text matches a good reference, whose domain has its first dot at `first`. "A reference matches only its own kind"; a good
-// kind that is neither SRV nor URI is DNS or CN. What is the same as a part of a good reference is not judged again.
-fn text_matches(kind: u8, service: &[u8], domain: &[u8], first: usize, text: &[u8]) -> bool
-    requires domain_value { good_reference (reference kind service.now domain.now) ≡ true }
-    requires first_value { (first ≡ length (before (is dot) domain.now)) × (first ≤ length domain.now) }
-    ensures { result ≡ text_matches (reference kind service.now domain.now) text.now }
+// Whether a text matches a reference. "A reference matches only its own kind". What is the same as a part of a good reference is not
+// judged again.
+fn text_matches(r: &Reference<'_>, text: &[u8]) -> bool
+    ensures { result ≡ text_matches (reference (kind_number r.now.kind) r.now.service.now r.now.domain.text.now) text.now }
 {
-    if kind == SRV {
-        return srv::service_matches(service, domain, text);
+    match r.kind {
+        Kind::Srv => srv::service_matches(r.service, r.domain.text, text),
+        Kind::Uri => uri::scheme_matches(r.service, r.domain.text, text),
+        Kind::Dns | Kind::Cn => dns::domain_matches(r.domain, text),
     }
-    if kind == URI {
-        return uri::scheme_matches(service, domain, text);
-    }
-    dns::domain_matches(domain, first, text)
 }
 
-// The same of the text that stands from `text` to `end` in a string; there is none where `text` is past the end.
-fn name_matches(
-    kind: u8,
-    service: &[u8],
-    domain: &[u8],
-    first: usize,
-    s: &[u8],
-    text: usize,
-    end: usize,
-) -> bool
-    requires domain_value { good_reference (reference kind service.now domain.now) ≡ true }
-    requires first_value { (first ≡ length (before (is dot) domain.now)) × (first ≤ length domain.now) }
-    requires end_in_bounds { end ≤ length s.now }
-    ensures { result ≡ text_at (reference kind service.now domain.now) s.now text end }
+// The text at a place.
+fn text_at(s: &[u8], text: Place) -> &[u8]
+    requires { text.start + text.length ≤ length s.now }
+    ensures { result.now ≡ part s.now text.start text.length }
 {
-    if end < text {
-        return false;
-    }
-    text_matches(kind, service, domain, first, &s[text..end])
+    &s[text.start..text.start + text.length]
 }
 
-// Whether a set of the subject presents a text that matches the domain of a CN reference.
-fn set_matches(domain: &[u8], subject: &[u8], e: Entry) -> bool
-    requires { e.text.start + e.text.length ≤ length subject.now }
-    ensures { result ≡ entry_matches (reference cn_kind [] domain.now) subject.now e }
-{
-    if e.presents {
-        let text = e.text;
-        let start = text.start;
-        let end = start + text.length;
-        return dns::dns_matches(domain, &subject[start..end]);
-    }
-    false
-}
-
-// The first set that the CN reference at an index matches.
-fn first_cn(references: &[u8], i: usize, san: &[u8], subject: &[u8]) -> Held
-    requires references_value { good_records references.now ≡ true }
-    requires i_in_bounds { i < length references.now / record_size }
-    requires i_value { (reference_at references.now i).kind ≡ cn_kind }
-    requires san_value { validated read_san san.now ≡ true }
-    requires subject_value { validated read_subject subject.now ≡ true }
-    ensures value { result ≡ held_by (found_for i (reference_at references.now i) (presented_to cn_kind (names_of read_san san.now) (names_of read_subject subject.now))) }
-    ensures held_fits { HeldFits references.now san.now subject.now result }
-{
-    let domain = domain_of(references, i);
-    let mut at = first_set(san, subject);
-    let mut j: usize = 0;
-    while at < subject.len() {
-        let e = set_at(subject, at);
-        let hit = set_matches(domain, subject, e);
-        if hit {
-            let element = e.element;
-            let text = e.text;
-            return Held::By(Witness {
-                reference: i,
-                presented: j,
-                element: element,
-                text: text,
-                subject: true,
-            });
-        }
-        at = e.next;
-        j += 1;
-    }
-    Held::Nothing
-}
-
-// The witness of a SAN entry that stands from `at` to `next`, and whose text starts at `text`.
-fn entry_witness(i: usize, j: usize, at: usize, text: usize, next: usize) -> Witness
-    requires at_le_next { at ≤ next }
-    requires text_le_next { text ≤ next }
-    ensures { result ≡ witness_at i j (shown_at at text next) false }
+// The witness of an identifier, which is the j-th of its string.
+fn witness(i: usize, j: usize, identifier: Identifier, subject: bool) -> Witness
+    ensures { result ≡ witness_at i j identifier subject }
 {
     Witness {
         reference: i,
         presented: j,
-        element: Place {
-            start: at,
-            length: next - at,
-        },
-        text: Place {
-            start: text,
-            length: next - text,
-        },
-        subject: false,
+        element: identifier.element,
+        text: identifier.text,
+        subject,
     }
+}
+
+// The first set that a CN reference matches, which is the i-th.
+#[tactic(auto, using(crate::proofs::Search::set_laws_lem))]
+fn first_cn(i: usize, r: &Reference<'_>, san: &[u8], subject: &[u8]) -> Option<Witness>
+    requires r_value { r.now.kind ≡ Cn }
+    requires san_value { validated read_san san.now ≡ true }
+    requires subject_value { validated read_subject subject.now ≡ true }
+    ensures value { result ≡ held_by (found_for i (reference cn_kind r.now.service.now r.now.domain.text.now) (presented_to cn_kind (names_of read_san san.now) (names_of read_subject subject.now))) }
+    ensures held_fits { MatchOption result ⊤ (λ w. SetFits i subject.now w) }
+{
+    let mut at = first_set(san, subject);
+    let mut j: usize = 0;
+    while at < subject.len() {
+        let set = set_at(subject, at);
+        if let Some(identifier) = set.identifier
+            && dns::dns_matches(r.domain.text, text_at(subject, identifier.text))
+        {
+            return Some(witness(i, j, identifier, true));
+        }
+        at = set.next;
+        j += 1;
+    }
+    None
 }
 
 // Where the entries start that a reference is held against: at the SAN's end, where a table of the dNSNames' keys says that a DNS
-// reference matches none of them. Any other part of bytes is no table.
+// reference matches none of them.
 fn first_entry(
-    table: &[u8],
-    kind: u8,
-    domain: &[u8],
-    first: usize,
+    table: Option<&[u8; TABLE_SIZE]>,
+    r: &Reference<'_>,
     start: usize,
     end: usize,
 ) -> usize
-    requires { (first ≡ length (before (is dot) domain.now)) × (first ≤ length domain.now) }
-    ensures { result ≡ first_entry table.now kind domain.now start end }
+    ensures { result ≡ first_entry table.entry (kind_number r.now.kind) r.now.domain.text.now start end }
 {
-    if kind != DNS {
-        return start;
+    match (table, r.kind) {
+        (Some(table), Kind::Dns) if !may_match(table, r.domain) => end,
+        _ => start,
     }
-    if table.len() != TABLE_SIZE {
-        return start;
-    }
-    let may = may_match(table, domain, first);
-    if may {
-        return start;
-    }
-    end
 }
 
 // The first pair of the references from one index to another: lowest reference, then lowest name.
+#[tactic(auto, using(crate::proofs::Search::pair_laws, entries::proofs::Steps::steps, entries::proofs::Steps::names))]
 fn first_between(
     references: &[u8],
     from: usize,
     to: usize,
     san: &[u8],
     subject: &[u8],
-    table: &[u8],
-) -> Held
+    table: Option<&[u8; TABLE_SIZE]>,
+) -> Option<Witness>
     requires references_value { good_records references.now ≡ true }
     requires from_le_to { from ≤ to }
     requires to_in_bounds { to ≤ length references.now / record_size }
     requires san_value { validated read_san san.now ≡ true }
     requires subject_value { validated read_subject subject.now ≡ true }
-    requires filters { Filters table.now (names_of read_san san.now) }
+    requires filters { Filters table (names_of read_san san.now) }
     ensures value { result ≡ held_by (found_between references.now san.now subject.now from to) }
     ensures held_fits { HeldFits references.now san.now subject.now result }
 {
     let start = names_start(san);
-    let mut found = Held::Nothing;
-    let mut i = from;
-    'pairs: while i < to {
-        let kind = kind_of(references, i);
-        if kind == CN {
-            let c = first_cn(references, i, san, subject);
-            if let Held::By(w) = c {
-                found = Held::By(w);
+    let end = san.len();
+    let mut found = None;
+    'pairs: for i in from..to {
+        let r = reference_at(references, i);
+        if let Kind::Cn = r.kind {
+            found = first_cn(i, &r, san, subject);
+            if found.is_some() {
                 break 'pairs;
             }
         } else {
-            let service = service_of(references, i);
-            let domain = domain_of(references, i);
-            let first = octets::find(domain, 0x2E);
-            let end = san.len();
-            let mut at = first_entry(table, kind, domain, first, start, end);
+            let mut at = first_entry(table, &r, start, end);
             let mut j: usize = 0;
             while at < end {
                 let next = element_end(san, at, end);
-                let text = entry_text(san, at, next, kind);
-                let hit = name_matches(kind, service, domain, first, san, text, next);
-                if hit {
-                    let w = entry_witness(i, j, at, text, next);
-                    found = Held::By(w);
+                if let Some(text) = entry_text(san, at, next, r.kind)
+                    && text_matches(&r, &san[text..next])
+                {
+                    found = Some(witness(i, j, shown(at, text, next), false));
                     break 'pairs;
                 }
                 at = next;
                 j += 1;
             }
         }
-        i += 1;
     }
     found
 }
 
 // The first pair of the references past the first. Most of several references match no name: a DNS reference whose key no dNSName has is
 // held against none of them.
-fn first_of_others(references: &[u8], san: &[u8], subject: &[u8]) -> Held
+#[tactic(auto, using(crate::proofs::Search::other_laws))]
+fn first_of_others(references: &[u8], san: &[u8], subject: &[u8]) -> Option<Witness>
     requires references_value { good_records references.now ≡ true }
     requires san_value { validated read_san san.now ≡ true }
     requires subject_value { validated read_subject subject.now ≡ true }
@@ -223,28 +150,23 @@ fn first_of_others(references: &[u8], san: &[u8], subject: &[u8]) -> Held
 {
     let n = references.len() / RECORD_SIZE;
     if n < 2 {
-        return Held::Nothing;
+        return None;
     }
-    let mut table = [0u8; TABLE_SIZE];
+    let mut table = [0; TABLE_SIZE];
     note(san, &mut table);
-    first_between(references, 1, n, san, subject, &table)
+    first_between(references, 1, n, san, subject, Some(&table))
 }
 
 // "the pair reported is the first: lowest reference, then lowest name"
-pub fn first_pair(references: &[u8], san: &[u8], subject: &[u8]) -> Outcome
+#[tactic(auto, using(crate::proofs::Search::whole_laws))]
+pub fn first_pair(references: &[u8], san: &[u8], subject: &[u8]) -> Option<Witness>
     requires references_value { good_records references.now ≡ true }
     requires san_value { validated read_san san.now ≡ true }
     requires subject_value { validated read_subject subject.now ≡ true }
-    ensures value { result ≡ matched_or (first_pair 0 (references_of references.now) (names_of read_san san.now) (names_of read_subject subject.now)) }
-    ensures outcome_fits { OutcomeFits references.now san.now subject.now result }
+    ensures value { result ≡ held_by (first_pair 0 (references_of references.now) (names_of read_san san.now) (names_of read_subject subject.now)) }
+    ensures held_fits { HeldFits references.now san.now subject.now result }
 {
-    let c = first_between(references, 0, 1, san, subject, &san[..0]);
-    if let Held::By(w) = c {
-        return Outcome::Matched(w);
-    }
-    let d = first_of_others(references, san, subject);
-    match d {
-        Held::By(w) => Outcome::Matched(w),
-        Held::Nothing => Outcome::Mismatched,
-    }
+    first_between(references, 0, 1, san, subject, None).or_else(|| first_of_others(
+        references, san, subject,
+    ))
 }

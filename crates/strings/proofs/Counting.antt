@@ -9,11 +9,11 @@ use lib.ListN.{length, take, drop, length-append, length-map}
 use lib.Dec.{eqb}
 use lib.Seq.{slice, slice_empty, length-slice, take-length}
 use borrow.Author.Tests.{eq-eqb, ne_eqb, eqb-true, eqb-false}
-use Rattle.std.specs.Prelude.{Some}
-use Rattle.std.specs.Cmp.Lexicographic.{slice_partial_cmp}
-use Rattle.std.specs.Ordering.{nat_cmp, is_le, is_some_and}
+use Rattle.std.specs.Cmp.Lexicographic.{slice_cmp}
+use Rattle.std.specs.Ordering.{nat_cmp, is_le}
+use Rattle.std.specs.declared.cmp.Ordering.{Ordering}
 use Rattle.std.proofs.lemmas.Bool.Decides.{nat_tests}
-use Rattle.std.proofs.lemmas.Cmp.{same_from_slice_cmp_tested}
+use Rattle.std.proofs.lemmas.Cmp.{same_from_slice_cmp}
 use Rattle.rules.specs.Bytes.{some?, chain, up_to}
 use Rattle.rules.specs.Der.{Member}
 use Rattle.rules.specs.Subject.{Attribute, write_attribute}
@@ -432,11 +432,9 @@ module _ (s : List ℕ) (all : Count) (k at end : ℕ) (inv : all ≡ side_on s 
 
 -- ---- byte order
 
-up_to_is : (a b : List ℕ) (r : Bool) → r ≡ is_some_and is_le (slice_partial_cmp (λ x y. Some (nat_cmp x y)) a b) → r ≡ up_to a b
-unfolding up_to
-up_to_is = same_from_slice_cmp_tested nat_cmp is_le up_to refl (λ _ _. refl) (λ _ _. refl) (λ x y xs ys o h. grind (arith, nat_tests))
-
-pub order_is : (s : List ℕ) (last at next : ℕ) → last ≤ at → at ≤ next → (r : Bool)
-    → r ≡ is_some_and is_le (slice_partial_cmp (λ x y. Some (nat_cmp x y)) (take (at - last) (drop last s)) (take (next - at) (drop at s))) → r ≡ order_at s last at at next
-unfolding order_at
-order_is s last at next h k r r_is = up_to_is (take (at - last) (drop last s)) (take (next - at) (drop at s)) r r_is ∙ rw (part_is s last at h, part_is s at next k)
+pub order_is : (s : List ℕ) (last at next : ℕ) → last ≤ at → at ≤ next → (o : Ordering)
+    → o ≡ slice_cmp nat_cmp (take (at - last) (drop last s)) (take (next - at) (drop at s)) → is_le o ≡ order_at s last at at next
+unfolding order_at up_to
+order_is s last at next h k o o_is =
+    let by = same_from_slice_cmp nat_cmp is_le up_to refl (λ _ _. refl) (λ _ _. refl) (λ x y xs ys o h. grind (arith, nat_tests)) in
+    by (take (at - last) (drop last s)) (take (next - at) (drop at s)) o o_is ∙ rw (part_is s last at h, part_is s at next k)

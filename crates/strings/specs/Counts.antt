@@ -32,12 +32,12 @@ unfoldable pub place_total : {A : Type 0} → (A → ℕ) → Option (List A) �
 place_total size none = unreadable
 place_total size (some l) = Ok (total size l)
 
--- where the content starts of the one element that fills a string
-unfoldable pub filled : ℕ → Answer → Count
+-- where the content starts of the one element, tagged 30, that fills a string
+unfoldable pub filled : ℕ → Answer → Result ℕ Unreadable
 filled end (Ok e) = cond (eqb e.next end) (Ok e.start) unreadable
 filled end (Err why) = unreadable
 
-unfoldable pub content_at : List ℕ → Count
+unfoldable pub content_at : List ℕ → Result ℕ Unreadable
 content_at s = filled (length s) (tagged_at s 0 (length s) 0x30)
 
 -- ---- what is counted from one place to another

@@ -1,4 +1,4 @@
--- What a yes shows of the usual name and of the usual set, whose lengths are in short form.
+-- What it shows that the usual name or the usual set is there, whose lengths are in short form.
 use Rattle.std.specs.Prelude.{ℕ, ◌+◌, ◌≡◌, Bool, true, List}
 use Rattle.std.specs.Prelude.{Ok}
 use Rattle.der.specs.Places.{found, element_at}

@@ -10,7 +10,7 @@ use der::{read_element, tagged};
 use entries::{Unreadable, attribute, good_name, good_subtree};
 use octets::wide;
 
-// "tag 30", of each of the three strings: where the content starts of the one element that fills the string.
+// "tag 30": where the content starts of the one element that fills a string.
 fn content(s: &[u8]) -> Result<usize, Unreadable>
     ensures { result ≡ content_at s.now }
 {
@@ -75,13 +75,13 @@ pub fn san_count(s: &[u8]) -> Result<usize, Unreadable>
 }
 
 // "The attributes of a set stand in ascending byte order, equal ones allowed": whether the bytes from `last` to `at` are no
-// later than those from `at` to `next`.
+// later than those from `at` to `next`. `cmp` takes many bytes at a time, where `<=` takes one after the other.
 fn in_order(s: &[u8], last: usize, at: usize, next: usize) -> bool
     requires last_le_at { (last ≤ at) × (at ≤ next) }
     requires next_in_bounds { next ≤ length s.now }
     ensures { result ≡ order_at s.now last at at next }
 {
-    s[last..at] <= s[at..next]
+    s[last..at].cmp(&s[at..next]).is_le()
 }
 
 // "one or more attributes (30)", each no earlier than the one before it.
@@ -169,8 +169,7 @@ fn count_sets(s: &[u8], from: usize, end: usize) -> Result<usize, Unreadable>
 pub fn subject_count(s: &[u8]) -> Result<usize, Unreadable>
     ensures { result ≡ place_count (read_subject s.now) }
 {
-    let start = content(s)?;
-    count_sets(s, start, s.len())
+    count_sets(s, content(s)?, s.len())
 }
 
 // The subtrees from one place to another, one after the other.
@@ -220,6 +219,5 @@ fn count_sides(s: &[u8], from: usize, end: usize) -> Result<usize, Unreadable>
 pub fn constraints_count(s: &[u8]) -> Result<usize, Unreadable>
     ensures { result ≡ place_count (read_constraints s.now) }
 {
-    let start = content(s)?;
-    count_sides(s, start, s.len())
+    count_sides(s, content(s)?, s.len())
 }

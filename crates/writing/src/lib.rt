@@ -2,16 +2,16 @@
 // one name.
 #![tactic(auto)]
 
-ghost use Rattle.std.specs.Prelude.{◌≡◌, ◌≤◌, ◌<◌, ◌+◌, ◌*◌, ℕ, List, [], ◌∷◌, ◌++◌, Bool, true, false, length, Result, MatchOption, MatchResult, IfOk, OnErr};
-ghost use Rattle.rules.specs.Bytes.{all, cut, sum};
+ghost use Rattle.std.specs.Prelude.{◌≡◌, ◌≤◌, ◌<◌, ◌+◌, ℕ, List, true, length, MatchResult};
+ghost use Rattle.rules.specs.Bytes.{all};
 ghost use Rattle.rules.specs.Der.{run};
-ghost use Rattle.rules.specs.Writing.{Writer as Described, request, agree, asked, written_by, buffer_by};
+ghost use Rattle.rules.specs.Writing.{Writer as Described, request, asked, written_by, buffer_by};
 ghost use Rattle.rules.specs.Writing as writing;
 ghost use Rattle.output.specs.Output.{Fits, Put};
 ghost use Rattle.writing.specs.Refusals.{number_of, told};
 ghost use Rattle.writing.specs.Parts.{Parts};
 ghost use Rattle.writing.specs.Listed.{made, listed};
-ghost use Rattle.writing.specs.declared.WriteRefusal.TheVariants.{NotAName, ResultTooLong};
+ghost use Rattle.writing.specs.declared.WriteRefusal.TheVariants.{ResultTooLong};
 
 mod list;
 

@@ -40,10 +40,8 @@ impl<'a> Names<'a> {
         ensures cases { MatchResult result (λ names. agree per (request kinds.now lengths.now texts.now) ≡ true) (λ refusal. (refusal ≡ NotAName) × (agree per (request kinds.now lengths.now texts.now) ≡ false)) }
         ensures same { IfOk result (λ names. (names.per ≡ per) × (names.kinds.now ≡ kinds.now) × (names.lengths.now ≡ lengths.now) × (names.texts.now ≡ texts.now)) }
     {
-        if lengths.len() / per != kinds.len() || lengths.len() % per != 0 {
-            return Err(WriteRefusal::NotAName);
-        }
-        if !sums_to(lengths, texts.len()) {
+        let many = lengths.len() / per == kinds.len() && lengths.len() % per == 0;
+        if !many || !sums_to(lengths, texts.len()) {
             return Err(WriteRefusal::NotAName);
         }
         Ok(Names {

@@ -3,4 +3,4 @@ use Rattle.strings.proofs.Laws.{outer_laws}
 use Rattle.strings.proofs.subject_count.Goals as goal
 
 pub returns : goal.returns
-returns c = let e = c.in_ok-start.was in search (rules, outer_laws)
+returns c = let e = c.in_ok-content.was in search (rules, outer_laws)
