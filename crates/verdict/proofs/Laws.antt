@@ -1,31 +1,34 @@
 -- The laws that the functions' proofs search: one for each return.
-use Prim.Native.Nat.{ℕ, suc, ◌+◌, ◌-◌, ◌≤◌, ◌<◌}
+use Prim.Native.Nat.{ℕ, ◌+◌, ◌-◌, ◌≤◌, ◌<◌}
 use mathlib.Core.Path.{◌≡◌, refl, sym, ap, ◌∙◌}
 use mathlib.Core.Bool.{Bool, true, false, cond, not, ◌&&◌, ◌||◌}
 use mathlib.Core.Option.{Option, none, some}
 use mathlib.Core.List.{List, [], ◌∷◌, map}
 use native.Mathlib.Omega.{arith}
 use native.Mathlib.Nat.{add-sub_cancel_left}
-use native.Mathlib.Numerals.{add-one}
-use lib.ListN.{length, take, drop, get_or, drop_of_length-le}
-use lib.Seq.{drop-cons}
+use lib.ListN.{length, take, drop}
 use lib.Dec.{ltb}
-use borrow.Author.Tests.{lt-ltb, le-ltb, not-true, not-false}
-use Rattle.rules.specs.Bytes.{part, some?, all, any}
+use borrow.Author.Tests.{lt-ltb, le-ltb}
+use Rattle.std.specs.List.{list_any, list_all}
+use Rattle.std.specs.Iterator.{YieldsFirstRef}
+use Rattle.std.proofs.lemmas.Iterator.{YieldsList}
+use Rattle.std.proofs.lemmas.Iterator.Consumers.{YieldsList-from_first}
+use Rattle.issuers.specs.declared.cut.Strings.{Strings}
+use Rattle.rules.specs.Bytes.{part, some?, all, any, cut}
 use Rattle.rules.specs.Numbers.{san_limit, subject_limit, constraints_limit, records_limit}
 use Rattle.rules.specs.Records.{good_records, references_of}
-use Rattle.rules.specs.Seen.{lengths_fit}
+use Rattle.rules.specs.Seen.{lengths_fit, strings_of}
 use Rattle.rules.specs.Matching.{Pair, first_pair, first_breach}
-use Rattle.rules.specs.Verdict.{past, witness_part, witness_text, witness_place, witness_of, matched_or, broken_or, judged, numbers_of}
-use Rattle.rules.specs.declared.Verdict.{Verdict}
+use Rattle.rules.specs.Verdict.{past, witness_text, witness_place, witness_of, matched_or, broken_or, judged}
 use Rattle.rules.specs.declared.Witness.{Witness}
 use Rattle.rules.specs.declared.Breach.{Breach}
 use Rattle.std.specs.Prelude as std
-use Rattle.std.specs.Prelude.{Result, Ok, Err, Some, None, is_ok}
+use Rattle.std.specs.Prelude.{Result, Ok, Err, Some, None, is_ok, MatchOption}
 use Rattle.rules.specs.declared.Refusal.{Refusal}
 use Rattle.rules.specs.declared.Refusal.TheVariants.{InputTooLong, RecordsUnreadable, SanUnreadable, SubjectUnreadable, ConstraintsUnreadable}
 use Rattle.rules.specs.declared.Outcome.{Outcome}
 use Rattle.rules.specs.declared.Outcome.TheVariants.{Refused, Broken, Matched, Mismatched}
+use Rattle.reading.specs.Answers.{no_some}
 use Rattle.reading.specs.Reader.{is_some}
 use Rattle.reading.specs.Strings.{read_san, read_subject, read_constraints}
 use Rattle.reading.specs.Calls.{inputs, witness_text_on, witness_place_on}
@@ -34,7 +37,7 @@ use Rattle.entries.specs.declared.Unreadable.{Unreadable}
 use Rattle.der.specs.Runs as runs
 use Rattle.der.specs.Runs.{validated, names_of}
 use Rattle.constrained.specs.Breaches.{breach_of}
-use Rattle.issuers.specs.Strings.{strings_in, string_at, fit_count}
+use Rattle.issuers.specs.Strings.{strings_in}
 use Rattle.pairs.specs.Pairs.{held_by, HeldFits}
 use Rattle.verdict.specs.Judging.{constraints_long, any_long, subject_read, constraints_read, first_refusal, SmallWitness, Small, numbers_are_small, place_is_small, numbers_of_inputs, place_of_inputs}
 use Rattle.verdict.proofs.Refusing.{whole, AllRead, sizes_fit, lengths_fit_lem, refused_is, all_read, judged_is}
@@ -62,31 +65,18 @@ module _ (R S J C L : List ℕ) where
 
 -- ---- constraints_long
 
--- the lengths from i on hold one past the limit exactly where all do
-unfoldable pub LongLeft : List ℕ → ℕ → Type 0
-LongLeft lengths i = any (ltb constraints_limit) (drop i lengths) ≡ any (ltb constraints_limit) lengths
+any_is : (p : ℕ → Bool) (l : List ℕ) → list_any p l ≡ any p l
+any_is p [] = refl
+any_is p (x ∷ l) = ap (λ v. p x || v) (any_is p l)
 
-module _ (lengths : List ℕ) (size : ℕ) (fit : Bool) (is_fit : fit ≡ lengths_fit lengths size) where
-  pub lengths_wrong : not fit ≡ true → true ≡ constraints_long lengths size
+module _ (lengths : List ℕ) (size : ℕ) where
+  pub lengths_wrong : lengths_fit lengths size ≡ false → true ≡ constraints_long lengths size
   unfolding constraints_long
-  lengths_wrong e = rw (← is_fit, e)
+  lengths_wrong e = rw e
 
-  pub lengths_begin : LongLeft lengths 0
-  unfolding LongLeft
-  lengths_begin = refl
-
-  module _ (e : not fit ≡ false) (i : ℕ) (inv : LongLeft lengths i) where
-    pub lengths_here : i < length lengths → constraints_limit < get_or lengths i 0 → true ≡ constraints_long lengths size
-    unfolding constraints_long LongLeft
-    lengths_here h k = rw (← is_fit, e) (rw (drop-cons lengths i 0 h, lt-ltb constraints_limit (get_or lengths i 0) k) at inv)
-
-    pub lengths_next : i < length lengths → get_or lengths i 0 ≤ constraints_limit → LongLeft lengths (i + 1)
-    unfolding LongLeft
-    lengths_next h k = rw add-one (rw (drop-cons lengths i 0 h, le-ltb constraints_limit (get_or lengths i 0) k) at inv)
-
-    pub lengths_end : length lengths ≤ i → false ≡ constraints_long lengths size
-    unfolding constraints_long LongLeft
-    lengths_end h = rw (← is_fit, e) (rw (drop_of_length-le lengths {i = i} h) at inv)
+  pub lengths_each : lengths_fit lengths size ≡ true → (r : Bool) → r ≡ list_any (ltb constraints_limit) lengths → r ≡ constraints_long lengths size
+  unfolding constraints_long
+  lengths_each e r r_is = r_is ∙ rw (any_is (ltb constraints_limit) lengths, e)
 
 -- ---- readable or not
 
@@ -116,31 +106,27 @@ subject_counted s c c_is b b_is = counted read_subject s c c_is b b_is
 
 -- ---- constraints_read
 
--- the strings from i on are all read exactly where all strings are
-unfoldable pub ReadLeft : List ℕ → List ℕ → ℕ → Type 0
-ReadLeft C L i = all (validated read_constraints) (drop i (strings_in L C)) ≡ constraints_read C L
+-- what the walk over the strings gives in all
+pub all_strings : (s : Strings) → YieldsList (YieldsFirstRef (λ x. cut x.lengths.now x.bytes.now)) (λ x. x.now) s (cut s.lengths.now s.bytes.now)
+all_strings s = YieldsList-from_first (λ x. x.now) (λ x. cut x.lengths.now x.bytes.now) _ refl
 
-module _ (C L : List ℕ) where
-  pub read_begin : ReadLeft C L 0
-  unfolding ReadLeft constraints_read
-  read_begin = refl
+pub these_strings : (C L : List ℕ) (o : std.Option Strings) → MatchOption o (strings_of L C ≡ none) (λ s. strings_of L C ≡ some (cut s.lengths.now s.bytes.now))
+    → (s : Strings) → o ≡ Some s → strings_of L C ≡ some (cut s.lengths.now s.bytes.now)
+these_strings C L None e s f = let z : ◌≡◌ {A = ℕ} 0 1 = cc in absurd (omega arith)
+these_strings C L (Some t) e s f = let k : t ≡ s = cc in rw (← k) e
 
-  module _ (fit : lengths_fit L (length C) ≡ true) (i : ℕ) (inv : ReadLeft C L i) where
-    pub read_end : length L ≤ i → true ≡ constraints_read C L
-    unfolding ReadLeft
-    read_end h = rw (drop_of_length-le (strings_in L C) {i = i} (rw (fit_count L C fit) h)) at inv
+all_is : (p : List ℕ → Bool) (l : List (List ℕ)) → list_all p l ≡ all p l
+all_is p [] = refl
+all_is p (x ∷ l) = ap (λ v. p x && v) (all_is p l)
 
-    module _ (h : i < length L) (s : List ℕ) (s_is : s ≡ string_at L C i) (r : Bool) (r_is : r ≡ validated read_constraints s) where
-      first_read : (r && all (validated read_constraints) (drop (suc i) (strings_in L C))) ≡ constraints_read C L
-      unfolding ReadLeft string_at
-      first_read = rw (r_is, s_is) (rw (drop-cons (strings_in L C) i [] (rw (fit_count L C fit) h)) at inv)
+module _ (C L : List ℕ) (fit : lengths_fit L (length C) ≡ true) where
+  pub read_each : (cuts : List (List ℕ)) → strings_of L C ≡ some cuts → (r : Bool) → r ≡ list_all (validated read_constraints) cuts → r ≡ constraints_read C L
+  unfolding constraints_read strings_in
+  read_each cuts e r r_is = r_is ∙ all_is (validated read_constraints) cuts ∙ rw e
 
-      pub read_not : not r ≡ true → false ≡ constraints_read C L
-      read_not e = rw (not-true r e) at first_read
-
-      pub read_next : not r ≡ false → ReadLeft C L (i + 1)
-      unfolding ReadLeft
-      read_next e = rw add-one (rw (not-false r e) at first_read)
+  pub read_never : strings_of L C ≡ none → (r : Bool) → r ≡ constraints_read C L
+  unfolding strings_of
+  read_never e r = let z : some (cut L C) ≡ none = rw fit at e in absurd (no_some (sym z))
 
 -- ---- the refusals in their order
 
@@ -385,14 +371,9 @@ pub ruleset laws = (
   long_subject,
   long_constraints,
   lengths_wrong,
-  lengths_begin,
-  lengths_here,
-  lengths_next,
-  lengths_end,
-  read_begin,
-  read_end,
-  read_not,
-  read_next,
+  lengths_each,
+  read_each,
+  read_never,
   valid_absent,
   valid_counted,
   subject_counted,

@@ -10,7 +10,7 @@ ghost use Rattle.der.specs.Runs.{validated};
 ghost use Rattle.verdict.specs.Judging.{inputs_of, constraints_long, any_long, subject_read, constraints_read, first_refusal, SmallWitness, Small, SmallNumbers, SmallPlace};
 
 use constrained::first_breach;
-use issuers::{lengths_fit, string_of};
+use issuers::{lengths_fit, strings_of};
 use pairs::first_pair;
 use records::good_records;
 use rules::{
@@ -31,18 +31,11 @@ pub struct Inputs<'a, 'b> {
 }
 
 // "a ninth, or lengths with another sum, is 7, and each keeps its own length limit"
+#[tactic(auto, using(crate::proofs::Laws::lengths_wrong, crate::proofs::Laws::lengths_each))]
 fn constraints_long(lengths: &[usize], size: usize) -> bool
     ensures { result ≡ constraints_long lengths.now size }
 {
-    if !lengths_fit(lengths, size) {
-        return true;
-    }
-    for &length in lengths {
-        if CONSTRAINTS_LIMIT < length {
-            return true;
-        }
-    }
-    false
+    !lengths_fit(lengths, size) || lengths.iter().any(|&length| CONSTRAINTS_LIMIT < length)
 }
 
 // "Longest inputs, in bytes: SAN 16,384; subject 4,096; constraints 16,384; references 5,120. One byte more is answer 7."
@@ -77,16 +70,15 @@ fn string_read(s: &[u8]) -> bool
 }
 
 // Whether the constraints of every issuer are.
+#[tactic(auto, using(crate::proofs::Laws::read_each, crate::proofs::Laws::read_never))]
 fn constraints_read(constraints: &[u8], lengths: &[usize]) -> bool
     requires { lengths_fit lengths.now (length constraints.now) ≡ true }
     ensures { result ≡ constraints_read constraints.now lengths.now }
 {
-    for k in 0..lengths.len() {
-        if !string_read(string_of(lengths, constraints, k)) {
-            return false;
-        }
+    match strings_of(lengths, constraints) {
+        Some(mut strings) => strings.all(string_read),
+        None => false,
     }
-    true
 }
 
 // "Order for a verdict: 7 for any of the four inputs, then 6, 3, 4, 5": the first that applies. Each input is validated here, once.
