@@ -1,40 +1,44 @@
 -- The laws that the functions' proofs search: one for each return.
-use Prim.Native.Nat.{ℕ, suc, ◌+◌, ◌-◌, ◌≤◌, ◌<◌}
+use Prim.Native.Nat.{ℕ, ◌+◌, ◌-◌, ◌≤◌, ◌<◌}
 use mathlib.Core.Path.{◌≡◌, refl, sym, ap, ◌∙◌}
 use mathlib.Core.Bool.{Bool, true, false, cond, not, ◌&&◌, ◌||◌}
 use mathlib.Core.Option.{Option, none, some}
 use mathlib.Core.List.{List, [], ◌∷◌, map}
 use native.Mathlib.Omega.{arith}
 use native.Mathlib.Nat.{add-sub_cancel_left}
-use native.Mathlib.Numerals.{add-one}
-use lib.ListN.{length, take, drop, get_or, drop_of_length-le}
-use lib.Seq.{drop-cons}
+use lib.ListN.{length, take, drop}
 use lib.Dec.{ltb}
-use borrow.Author.Tests.{lt-ltb, le-ltb, not-true, not-false}
-use Rattle.rules.specs.Bytes.{part, some?, all, any}
+use borrow.Author.Tests.{lt-ltb, le-ltb}
+use Rattle.std.specs.List.{list_any, list_all}
+use Rattle.std.specs.Iterator.{YieldsFirstRef}
+use Rattle.std.proofs.lemmas.Iterator.{YieldsList}
+use Rattle.std.proofs.lemmas.Iterator.Consumers.{YieldsList-from_first}
+use Rattle.issuers.specs.declared.cut.Strings.{Strings}
+use Rattle.rules.specs.Bytes.{part, some?, all, any, cut}
 use Rattle.rules.specs.Numbers.{san_limit, subject_limit, constraints_limit, records_limit}
 use Rattle.rules.specs.Records.{good_records, references_of}
-use Rattle.rules.specs.Seen.{lengths_fit}
+use Rattle.rules.specs.Seen.{lengths_fit, strings_of}
 use Rattle.rules.specs.Matching.{Pair, first_pair, first_breach}
-use Rattle.rules.specs.Verdict.{past, witness_part, witness_text, witness_place, witness_of, matched_or, broken_or, judged, numbers, numbers_of}
-use Rattle.rules.specs.declared.Verdict.{Verdict}
+use Rattle.rules.specs.Verdict.{past, witness_text, witness_place, witness_of, matched_or, broken_or, judged}
 use Rattle.rules.specs.declared.Witness.{Witness}
 use Rattle.rules.specs.declared.Breach.{Breach}
+use Rattle.std.specs.Prelude as std
+use Rattle.std.specs.Prelude.{Result, Ok, Err, Some, None, is_ok, MatchOption}
+use Rattle.rules.specs.declared.Refusal.{Refusal}
+use Rattle.rules.specs.declared.Refusal.TheVariants.{InputTooLong, RecordsUnreadable, SanUnreadable, SubjectUnreadable, ConstraintsUnreadable}
 use Rattle.rules.specs.declared.Outcome.{Outcome}
 use Rattle.rules.specs.declared.Outcome.TheVariants.{Refused, Broken, Matched, Mismatched}
+use Rattle.reading.specs.Answers.{no_some}
 use Rattle.reading.specs.Reader.{is_some}
 use Rattle.reading.specs.Strings.{read_san, read_subject, read_constraints}
 use Rattle.reading.specs.Calls.{inputs, witness_text_on, witness_place_on}
 use Rattle.strings.specs.Counts.{place_count}
-use Rattle.strings.specs.declared.Count.{Count}
-use Rattle.strings.specs.declared.Count.TheVariants.{Of, Unreadable}
+use Rattle.entries.specs.declared.Unreadable.{Unreadable}
 use Rattle.der.specs.Runs as runs
 use Rattle.der.specs.Runs.{validated, names_of}
 use Rattle.constrained.specs.Breaches.{breach_of}
-use Rattle.constrained.specs.declared.Breached as breached
-use Rattle.constrained.specs.declared.Breached.TheVariants.{At, Nothing}
-use Rattle.issuers.specs.Strings.{strings_in, string_at, fit_count}
-use Rattle.pairs.specs.Pairs.{OutcomeFits}
+use Rattle.issuers.specs.Strings.{strings_in}
+use Rattle.pairs.specs.Pairs.{held_by, HeldFits}
 use Rattle.verdict.specs.Judging.{constraints_long, any_long, subject_read, constraints_read, first_refusal, SmallWitness, Small, numbers_are_small, place_is_small, numbers_of_inputs, place_of_inputs}
 use Rattle.verdict.proofs.Refusing.{whole, AllRead, sizes_fit, lengths_fit_lem, refused_is, all_read, judged_is}
 
@@ -61,148 +65,106 @@ module _ (R S J C L : List ℕ) where
 
 -- ---- constraints_long
 
--- the lengths from i on hold one past the limit exactly where all do
-unfoldable pub LongLeft : List ℕ → ℕ → Type 0
-LongLeft lengths i = any (ltb constraints_limit) (drop i lengths) ≡ any (ltb constraints_limit) lengths
+any_is : (p : ℕ → Bool) (l : List ℕ) → list_any p l ≡ any p l
+any_is p [] = refl
+any_is p (x ∷ l) = ap (λ v. p x || v) (any_is p l)
 
-module _ (lengths : List ℕ) (size : ℕ) (fit : Bool) (is_fit : fit ≡ lengths_fit lengths size) where
-  pub lengths_wrong : not fit ≡ true → true ≡ constraints_long lengths size
+module _ (lengths : List ℕ) (size : ℕ) where
+  pub lengths_wrong : lengths_fit lengths size ≡ false → true ≡ constraints_long lengths size
   unfolding constraints_long
-  lengths_wrong e = rw (← is_fit, e)
+  lengths_wrong e = rw e
 
-  pub lengths_begin : LongLeft lengths 0
-  unfolding LongLeft
-  lengths_begin = refl
-
-  module _ (e : not fit ≡ false) (i : ℕ) (inv : LongLeft lengths i) where
-    pub lengths_here : i < length lengths → constraints_limit < get_or lengths i 0 → true ≡ constraints_long lengths size
-    unfolding constraints_long LongLeft
-    lengths_here h k = rw (← is_fit, e) (rw (drop-cons lengths i 0 h, lt-ltb constraints_limit (get_or lengths i 0) k) at inv)
-
-    pub lengths_next : i < length lengths → get_or lengths i 0 ≤ constraints_limit → LongLeft lengths (i + 1)
-    unfolding LongLeft
-    lengths_next h k = rw add-one (rw (drop-cons lengths i 0 h, le-ltb constraints_limit (get_or lengths i 0) k) at inv)
-
-    pub lengths_end : length lengths ≤ i → false ≡ constraints_long lengths size
-    unfolding constraints_long LongLeft
-    lengths_end h = rw (← is_fit, e) (rw (drop_of_length-le lengths {i = i} h) at inv)
+  pub lengths_each : lengths_fit lengths size ≡ true → (r : Bool) → r ≡ list_any (ltb constraints_limit) lengths → r ≡ constraints_long lengths size
+  unfolding constraints_long
+  lengths_each e r r_is = r_is ∙ rw (any_is (ltb constraints_limit) lengths, e)
 
 -- ---- readable or not
 
-module _ {N : Type 0} (read : List ℕ → Option (List N)) (s : List ℕ) where
-  counted : (c : Count) → c ≡ place_count (read s) → (k : ℕ) → c ≡ Of k → true ≡ is_some (read s)
+module _ {N : Type 0} (read : List ℕ → Option (List N)) (s : List ℕ) (c : Result ℕ Unreadable) (c_is : c ≡ place_count (read s)) (b : Bool) (b_is : b ≡ is_ok c) where
+  counted : b ≡ is_some (read s)
   unfolding place_count
-  counted c e k f = go (read s) (sym e ∙ f)
+  counted = go (read s) (ap is_ok c_is)
     where
-      go : (o : Option (List N)) → place_count o ≡ Of k → true ≡ is_some o
-      go none g = let z : ◌≡◌ {A = ℕ} 0 1 = cc in absurd (omega arith)
-      go (some l) g = refl
+      go : (o : Option (List N)) → is_ok c ≡ is_ok (place_count o) → b ≡ is_some o
+      go none e = b_is ∙ e
+      go (some l) e = b_is ∙ e
 
-  uncounted : (c : Count) → c ≡ place_count (read s) → c ≡ Unreadable → false ≡ is_some (read s)
-  unfolding place_count
-  uncounted c e f = go (read s) (sym e ∙ f)
-    where
-      go : (o : Option (List N)) → place_count o ≡ Unreadable → false ≡ is_some o
-      go none g = refl
-      go (some l) g = let z : ◌≡◌ {A = ℕ} 0 1 = cc in absurd (omega arith)
-
-  pub valid_absent : length s ≡ 0 → true ≡ validated read s
-  valid_absent e = sym (runs.absent_valid read s e)
-
-  pub valid_counted : (c : Count) → c ≡ place_count (read s) → (k : ℕ) → c ≡ Of k → true ≡ validated read s
-  valid_counted c e k f = sym (runs.read_valid read s (sym (counted c e k f)))
-
-  pub valid_not : (length s ≡ 0 → ⊥) → (c : Count) → c ≡ place_count (read s) → c ≡ Unreadable → false ≡ validated read s
+  pub valid_counted : (length s ≡ 0 → ⊥) → b ≡ validated read s
   unfolding validated
-  valid_not h c e f = rw (← uncounted c e f) (go s h)
+  valid_counted h = counted ∙ go s h (is_some (read s))
     where
-      go : (b : List ℕ) → (length b ≡ 0 → ⊥) → false ≡ (not (some? b) || false)
-      go [] g = absurd (g refl)
-      go (x ∷ b) g = refl
+      go : (l : List ℕ) → (length l ≡ 0 → ⊥) → (v : Bool) → v ≡ (not (some? l) || v)
+      go [] g v = absurd (g refl)
+      go (x ∷ l) g v = refl
 
-module _ (s : List ℕ) (c : Count) (e : c ≡ place_count (read_subject s)) where
-  pub subject_counted : (k : ℕ) → c ≡ Of k → true ≡ subject_read s
-  unfolding subject_read
-  subject_counted k f = counted read_subject s c e k f
+pub valid_absent : {N : Type 0} (read : List ℕ → Option (List N)) (s : List ℕ) → length s ≡ 0 → true ≡ validated read s
+valid_absent read s e = sym (runs.absent_valid read s e)
 
-  pub subject_not : c ≡ Unreadable → false ≡ subject_read s
-  unfolding subject_read
-  subject_not f = uncounted read_subject s c e f
+pub subject_counted : (s : List ℕ) (c : Result ℕ Unreadable) → c ≡ place_count (read_subject s) → (b : Bool) → b ≡ is_ok c → b ≡ subject_read s
+unfolding subject_read
+subject_counted s c c_is b b_is = counted read_subject s c c_is b b_is
 
 -- ---- constraints_read
 
--- the strings from i on are all read exactly where all strings are
-unfoldable pub ReadLeft : List ℕ → List ℕ → ℕ → Type 0
-ReadLeft C L i = all (validated read_constraints) (drop i (strings_in L C)) ≡ constraints_read C L
+-- what the walk over the strings gives in all
+pub all_strings : (s : Strings) → YieldsList (YieldsFirstRef (λ x. cut x.lengths.now x.bytes.now)) (λ x. x.now) s (cut s.lengths.now s.bytes.now)
+all_strings s = YieldsList-from_first (λ x. x.now) (λ x. cut x.lengths.now x.bytes.now) _ refl
 
-module _ (C L : List ℕ) where
-  pub read_begin : ReadLeft C L 0
-  unfolding ReadLeft constraints_read
-  read_begin = refl
+pub these_strings : (C L : List ℕ) (o : std.Option Strings) → MatchOption o (strings_of L C ≡ none) (λ s. strings_of L C ≡ some (cut s.lengths.now s.bytes.now))
+    → (s : Strings) → o ≡ Some s → strings_of L C ≡ some (cut s.lengths.now s.bytes.now)
+these_strings C L None e s f = let z : ◌≡◌ {A = ℕ} 0 1 = cc in absurd (omega arith)
+these_strings C L (Some t) e s f = let k : t ≡ s = cc in rw (← k) e
 
-  module _ (fit : lengths_fit L (length C) ≡ true) (i : ℕ) (inv : ReadLeft C L i) where
-    pub read_end : length L ≤ i → true ≡ constraints_read C L
-    unfolding ReadLeft
-    read_end h = rw (drop_of_length-le (strings_in L C) {i = i} (rw (fit_count L C fit) h)) at inv
+all_is : (p : List ℕ → Bool) (l : List (List ℕ)) → list_all p l ≡ all p l
+all_is p [] = refl
+all_is p (x ∷ l) = ap (λ v. p x && v) (all_is p l)
 
-    module _ (h : i < length L) (s : List ℕ) (s_is : s ≡ string_at L C i) (r : Bool) (r_is : r ≡ validated read_constraints s) where
-      first_read : (r && all (validated read_constraints) (drop (suc i) (strings_in L C))) ≡ constraints_read C L
-      unfolding ReadLeft string_at
-      first_read = rw (r_is, s_is) (rw (drop-cons (strings_in L C) i [] (rw (fit_count L C fit) h)) at inv)
+module _ (C L : List ℕ) (fit : lengths_fit L (length C) ≡ true) where
+  pub read_each : (cuts : List (List ℕ)) → strings_of L C ≡ some cuts → (r : Bool) → r ≡ list_all (validated read_constraints) cuts → r ≡ constraints_read C L
+  unfolding constraints_read strings_in
+  read_each cuts e r r_is = r_is ∙ all_is (validated read_constraints) cuts ∙ rw e
 
-      pub read_not : not r ≡ true → false ≡ constraints_read C L
-      read_not e = rw (not-true r e) at first_read
+  pub read_never : strings_of L C ≡ none → (r : Bool) → r ≡ constraints_read C L
+  unfolding strings_of
+  read_never e r = let z : some (cut L C) ≡ none = rw fit at e in absurd (no_some (sym z))
 
-      pub read_next : not r ≡ false → ReadLeft C L (i + 1)
-      unfolding ReadLeft
-      read_next e = rw add-one (rw (not-false r e) at first_read)
+-- ---- the refusals in their order
 
--- ---- refusal
-
-module _ (R S J C L : List ℕ) (t : Bool) (t_is : t ≡ any_long R S J C L) where
-  pub ref_long : t ≡ true → 7 ≡ first_refusal R S J C L
+module _ (R S J C L : List ℕ) where
+  pub ref_long : any_long R S J C L ≡ true → Err InputTooLong ≡ first_refusal R S J C L
   unfolding first_refusal
-  ref_long h = simp (← t_is, h)
+  ref_long h = simp h
 
-  module _ (t_not : t ≡ false) where
+  module _ (short : any_long R S J C L ≡ false) where
     pub asks_fit : lengths_fit L (length C) ≡ true
-    asks_fit = lengths_fit_lem R S J C L (sym t_is ∙ t_not)
+    asks_fit = lengths_fit_lem R S J C L short
 
-  module _ (t_not : t ≡ false) (g : Bool) (g_is : g ≡ good_records R) where
-    pub ref_records : not g ≡ true → 6 ≡ first_refusal R S J C L
+    pub ref_records : good_records R ≡ false → Err RecordsUnreadable ≡ first_refusal R S J C L
     unfolding first_refusal
-    ref_records h = simp (← t_is, t_not, ← g_is, h)
+    ref_records h = simp (short, h)
 
-    module _ (good : not g ≡ false) (a : Bool) (a_is : a ≡ validated read_san S) where
-      pub ref_san : not a ≡ true → 3 ≡ first_refusal R S J C L
+    module _ (good : good_records R ≡ true) where
+      pub ref_san : validated read_san S ≡ false → Err SanUnreadable ≡ first_refusal R S J C L
       unfolding first_refusal
-      ref_san h = simp (← t_is, t_not, ← g_is, good, ← a_is, h)
+      ref_san h = simp (short, good, h)
 
-      module _ (san : not a ≡ false) (b : Bool) (b_is : b ≡ subject_read J) where
-        pub ref_subject : not b ≡ true → 4 ≡ first_refusal R S J C L
+      module _ (san : validated read_san S ≡ true) where
+        pub ref_subject : subject_read J ≡ false → Err SubjectUnreadable ≡ first_refusal R S J C L
         unfolding first_refusal
-        ref_subject h = simp (← t_is, t_not, ← g_is, good, ← a_is, san, ← b_is, h)
+        ref_subject h = simp (short, good, san, h)
 
-        module _ (subject : not b ≡ false) (c : Bool) (c_is : c ≡ constraints_read C L) where
-          pub ref_constraints : not c ≡ true → 5 ≡ first_refusal R S J C L
+        module _ (subject : subject_read J ≡ true) where
+          pub ref_constraints : constraints_read C L ≡ false → Err ConstraintsUnreadable ≡ first_refusal R S J C L
           unfolding first_refusal
-          ref_constraints h = simp (← t_is, t_not, ← g_is, good, ← a_is, san, ← b_is, subject, ← c_is, h)
+          ref_constraints h = simp (short, good, san, subject, h)
 
-          pub ref_none : not c ≡ false → 0 ≡ first_refusal R S J C L
+          pub ref_none : constraints_read C L ≡ true → (u : Unit {0}) → Ok u ≡ first_refusal R S J C L
           unfolding first_refusal
-          ref_none h = simp (← t_is, t_not, ← g_is, good, ← a_is, san, ← b_is, subject, ← c_is, h)
+          ref_none h u = simp (short, good, san, subject, h)
 
-pub refusal_small : (R S J C L : List ℕ) (n : ℕ) → n ≡ first_refusal R S J C L → n ≤ 7
-unfolding first_refusal
-refusal_small R S J C L n e = rw e (go (any_long R S J C L) (not (good_records R)) (not (validated read_san S)) (not (subject_read J)) (not (constraints_read C L)))
-  where
-    go : (t g a b c : Bool) → cond t 7 (cond g 6 (cond a 3 (cond b 4 (cond c 5 0)))) ≤ 7
-    go true g a b c = omega arith
-    go false true a b c = omega arith
-    go false false true b c = omega arith
-    go false false false true c = omega arith
-    go false false false false true = omega arith
-    go false false false false false = omega arith
+-- what a test answers is what the definition says
+pub is_so : (b d : Bool) → b ≡ d → (v : Bool) → b ≡ v → d ≡ v
+is_so b d e v f = sym e ∙ f
 
 -- ---- outcome
 
@@ -212,34 +174,35 @@ module _ (S J : List ℕ) (s : length S ≤ san_limit) (j : length J ≤ subject
   string_small true = omega arith
   string_small false = s
 
--- a search that ends with the first pair or with none
-small_outcome : (R S J : List ℕ) → (length R ≤ records_limit) × (length S ≤ san_limit) × (length J ≤ subject_limit)
-    → (x : Option Pair) → OutcomeFits R S J (matched_or x) → Small S J (matched_or x)
-unfolding Small OutcomeFits
-small_outcome R S J h none f = tt
-small_outcome R S J h (some p) f =
-    let w = witness_of p in
-    let l = string_small S J h.1 h.2 w.subject in
-    record {
+-- a witness that lies in its string
+small_witness_of : (R S J : List ℕ) → (length R ≤ records_limit) × (length S ≤ san_limit) × (length J ≤ subject_limit)
+    → (h : std.Option Witness) → HeldFits R S J h → (w : Witness) → h ≡ Some w → SmallWitness S J w
+unfolding HeldFits
+small_witness_of R S J sizes None f w e = let z : ◌≡◌ {A = ℕ} 0 1 = cc in absurd (omega arith)
+small_witness_of R S J sizes (Some v) f w e =
+    let v_w : v ≡ w = cc in
+    let l = string_small S J sizes.1 sizes.2 v.subject in
+    rw (← v_w) (record {
       reference_small = omega (arith, f.reference_fits);
       presented_small = omega (arith, f.presented_fits);
       start_small = omega (arith, f.element_fits);
       length_small = omega (arith, f.element_fits);
       text_small = omega (arith, f.text_fits);
       text_fits = f.text_fits;
-    }
+    })
 
-module _ (R S J C L : List ℕ) (n : ℕ) (n_is : n ≡ first_refusal R S J C L) where
-  pub out_refused : (n ≡ 0 → ⊥) → Refused n ≡ whole R S J C L
-  out_refused h = refused_is R S J C L n n_is h
+module _ (R S J C L : List ℕ) (r : Result (Unit {0}) Refusal) (r_is : r ≡ first_refusal R S J C L) where
+  module _ (refusal : Refusal) (e : r ≡ Err refusal) where
+    pub out_refused : Refused refusal ≡ whole R S J C L
+    out_refused = refused_is R S J C L r r_is refusal e
 
-  pub refused_small : Small S J (Refused n)
-  unfolding Small
-  refused_small = omega (arith, refusal_small R S J C L n n_is)
+    pub refused_small : Small S J (Refused refusal)
+    unfolding Small
+    refused_small = tt
 
-  module _ (zero_is : n ≡ 0) where
+  module _ (u : Unit {0}) (ok : r ≡ Ok u) where
     read : AllRead R S J C L
-    read = all_read R S J C L n n_is zero_is
+    read = all_read R S J C L r r_is u ok
 
     pub asks_san : validated read_san S ≡ true
     asks_san = read.san
@@ -255,75 +218,59 @@ module _ (R S J C L : List ℕ) (n : ℕ) (n_is : n ≡ first_refusal R S J C L)
     unfolding subject_read
     asks_subject = runs.read_valid read_subject J read.subject
 
-    module _ (b : breached.Breached)
+    module _ (b : std.Option Breach)
         (b_is : b ≡ breach_of (first_breach 0 (map (names_of read_constraints) (strings_in L C)) (names_of read_san S))) where
-      judged_broken : (o : Option Breach) (x : Outcome) (i : Breach) → breach_of o ≡ At i → broken_or o x ≡ Broken i
+      judged_broken : (o : Option Breach) (x : Outcome) (i : Breach) → breach_of o ≡ Some i → broken_or o x ≡ Broken i
       unfolding breach_of
       judged_broken none x i e = let z : ◌≡◌ {A = ℕ} 0 1 = cc in absurd (omega arith)
       judged_broken (some k) x i e = let f : k ≡ i = cc in ap Broken f
 
-      judged_whole : (o : Option Breach) (x : Outcome) → breach_of o ≡ Nothing → broken_or o x ≡ x
+      judged_whole : (o : Option Breach) (x : Outcome) → breach_of o ≡ None → broken_or o x ≡ x
       unfolding breach_of
       judged_whole none x e = refl
       judged_whole (some k) x e = let z : ◌≡◌ {A = ℕ} 0 1 = cc in absurd (omega arith)
 
-      module _ (i : Breach) (e : b ≡ At i) where
+      module _ (i : Breach) (e : b ≡ Some i) where
         pub out_broken : Broken i ≡ whole R S J C L
         unfolding judged
-        out_broken = sym (judged_is R S J C L n n_is zero_is ∙ judged_broken _ _ i (sym b_is ∙ e))
+        out_broken = sym (judged_is R S J C L r r_is u ok ∙ judged_broken _ _ i (sym b_is ∙ e))
 
-        pub broken_small : ((k : Breach) → b ≡ At k → (k.issuer ≤ 8) × (k.presented ≤ length S)) → Small S J (Broken i)
+        pub broken_small : ((k : Breach) → b ≡ Some k → (k.issuer ≤ 8) × (k.presented ≤ length S)) → Small S J (Broken i)
         unfolding Small
         broken_small small =
             (omega (arith, (small i e).0), omega (arith, (small i e).1, (sizes_fit R S J C L read.short).1))
 
-      module _ (e : b ≡ Nothing) (o : Outcome) (o_is : o ≡ matched_or (first_pair 0 (references_of R) (names_of read_san S) (names_of read_subject J))) where
-        pub out_pair : o ≡ whole R S J C L
+      module _ (e : b ≡ None) (h : std.Option Witness) (h_is : h ≡ held_by (first_pair 0 (references_of R) (names_of read_san S) (names_of read_subject J))) where
+        whole_is : whole R S J C L ≡ matched_or (first_pair 0 (references_of R) (names_of read_san S) (names_of read_subject J))
         unfolding judged
-        out_pair = o_is ∙ sym (judged_is R S J C L n n_is zero_is ∙ judged_whole _ _ (sym b_is ∙ e))
+        whole_is = judged_is R S J C L r r_is u ok ∙ judged_whole _ _ (sym b_is ∙ e)
 
-        pub pair_small : OutcomeFits R S J o → Small S J o
-        pair_small fits =
-            rw o_is
-            (small_outcome R S J (sizes_fit R S J C L read.short) (first_pair 0 (references_of R) (names_of read_san S) (names_of read_subject J)) (rw o_is at fits))
+        held_matched : (o : Option Pair) (w : Witness) → held_by o ≡ Some w → matched_or o ≡ Matched w
+        unfolding held_by
+        held_matched none w f = let z : ◌≡◌ {A = ℕ} 0 1 = cc in absurd (omega arith)
+        held_matched (some p) w f = let k : witness_of p ≡ w = cc in ap Matched k
 
--- ---- numbers
+        held_none : (o : Option Pair) → held_by o ≡ None → matched_or o ≡ Mismatched
+        unfolding held_by
+        held_none none f = refl
+        held_none (some p) f = let z : ◌≡◌ {A = ℕ} 0 1 = cc in absurd (omega arith)
 
-module _ (o : Outcome) where
-  pub num_refused : (v : Verdict) (n : ℕ) → o ≡ Refused n → v ≡ numbers n 0 0 0 0 0 → v ≡ numbers_of o
-  unfolding numbers_of
-  num_refused v n e f = f ∙ rw e
+        module _ (w : Witness) (f : h ≡ Some w) where
+          pub out_matched : Matched w ≡ whole R S J C L
+          out_matched = sym (whole_is ∙ held_matched _ w (sym h_is ∙ f))
 
-  pub num_broken : (v : Verdict) (b : Breach) → o ≡ Broken b → v ≡ numbers 2 0 b.presented 0 0 b.issuer → v ≡ numbers_of o
-  unfolding numbers_of
-  num_broken v b e f = f ∙ rw e
+          pub matched_small : HeldFits R S J h → Small S J (Matched w)
+          unfolding Small
+          matched_small fits = small_witness_of R S J (sizes_fit R S J C L read.short) h fits w f
 
-  pub num_matched : (v : Verdict) (w : Witness) → o ≡ Matched w → v ≡ numbers 0 w.reference w.presented w.element.start w.element.length 0 → v ≡ numbers_of o
-  unfolding numbers_of
-  num_matched v w e f = f ∙ rw e
+        pub out_none : h ≡ None → Mismatched ≡ whole R S J C L
+        out_none f = sym (whole_is ∙ held_none _ (sym h_is ∙ f))
 
-  pub num_mismatched : (v : Verdict) → o ≡ Mismatched → v ≡ numbers 1 0 0 0 0 0 → v ≡ numbers_of o
-  unfolding numbers_of
-  num_mismatched v e f = f ∙ rw e
+        pub none_small : Small S J Mismatched
+        unfolding Small
+        none_small = tt
 
 -- ---- the witness's text
-
-module _ (o : Outcome) where
-  pub text_matched : (w : Witness) → o ≡ Matched w → w.text ≡ witness_part o
-  unfolding witness_part
-  text_matched w e = rw e
-
-  pub text_refused : (n : ℕ) → o ≡ Refused n → record { start = 0; length = 0 } ≡ witness_part o
-  unfolding witness_part
-  text_refused n e = rw e
-
-  pub text_broken : (b : Breach) → o ≡ Broken b → record { start = 0; length = 0 } ≡ witness_part o
-  unfolding witness_part
-  text_broken b e = rw e
-
-  pub text_mismatched : o ≡ Mismatched → record { start = 0; length = 0 } ≡ witness_part o
-  unfolding witness_part
-  text_mismatched e = rw e
 
 -- ---- the witness, in its string
 
@@ -356,7 +303,7 @@ module _ (o : Outcome) (S J : List ℕ) where
   unfolding Small
   small_witness q w e = rw e at q
 
-  pub shown_refused : (n : ℕ) → o ≡ Refused n → [] ≡ witness_text S J o
+  pub shown_refused : (n : Refusal) → o ≡ Refused n → [] ≡ witness_text S J o
   unfolding witness_text
   shown_refused n e = rw e
 
@@ -372,7 +319,7 @@ module _ (o : Outcome) (S J : List ℕ) where
   shown_matched w e t f = f ∙ rw e
 
 module _ (o : Outcome) (p q : ℕ × ℕ) where
-  pub at_refused : (n : ℕ) → o ≡ Refused n → p ≡ witness_place p q o
+  pub at_refused : (n : Refusal) → o ≡ Refused n → p ≡ witness_place p q o
   unfolding witness_place
   at_refused n e = rw e
 
@@ -397,10 +344,6 @@ module _ (R S J C L : List ℕ) (o : Outcome) (o_is : o ≡ whole R S J C L) whe
   witness_place_lem p q t e = e ∙ ap (witness_place p q) o_is
 
 pub ruleset texts = (
-  text_matched,
-  text_refused,
-  text_broken,
-  text_mismatched,
   place_of_inputs,
   place_is_small,
   fits_subject,
@@ -428,27 +371,29 @@ pub ruleset laws = (
   long_subject,
   long_constraints,
   lengths_wrong,
-  lengths_begin,
-  lengths_here,
-  lengths_next,
-  lengths_end,
-  read_begin,
-  read_end,
-  read_not,
-  read_next,
+  lengths_each,
+  read_each,
+  read_never,
   valid_absent,
   valid_counted,
-  valid_not,
   subject_counted,
-  subject_not,
-  num_refused,
-  num_broken,
-  num_matched,
-  num_mismatched,
   numbers_of_inputs,
   numbers_are_small,
 )
 
-pub ruleset refusals = (asks_fit, ref_long, ref_records, ref_san, ref_subject, ref_constraints, ref_none)
+pub ruleset refusals = (is_so, asks_fit, ref_long, ref_records, ref_san, ref_subject, ref_constraints, ref_none)
 
-pub ruleset outcomes = (out_refused, refused_small, asks_san, asks_constraints, asks_records, asks_subject, out_broken, broken_small, out_pair, pair_small)
+pub ruleset outcomes = (
+  out_refused,
+  refused_small,
+  asks_san,
+  asks_constraints,
+  asks_records,
+  asks_subject,
+  out_broken,
+  broken_small,
+  out_matched,
+  matched_small,
+  out_none,
+  none_small,
+)

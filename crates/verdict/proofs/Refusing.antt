@@ -1,5 +1,5 @@
 -- The refusals in their order: what the code decides is what the rules say of the four inputs.
-use Prim.Native.Nat.{ℕ, zero, suc, ◌≤◌}
+use Prim.Native.Nat.{ℕ, ◌≤◌}
 use mathlib.Core.Path.{◌≡◌, refl, sym, ap, ◌∙◌}
 use mathlib.Core.Bool.{Bool, true, false, cond, not, ◌||◌}
 use mathlib.Core.Option.{none, some}
@@ -14,6 +14,9 @@ use Rattle.rules.specs.Numbers.{san_limit, subject_limit, constraints_limit, rec
 use Rattle.rules.specs.Records.{good_records, references_of}
 use Rattle.rules.specs.Seen.{together, lengths_fit, strings_by, seen_records, san_input, subject_input, constraints_input}
 use Rattle.rules.specs.Verdict.{is_long, is_unreadable, list_of, judged, outcome_of}
+use Rattle.std.specs.Prelude.{Result, Ok, Err}
+use Rattle.rules.specs.declared.Refusal.{Refusal}
+use Rattle.rules.specs.declared.Refusal.TheVariants.{InputTooLong, RecordsUnreadable, SanUnreadable, SubjectUnreadable, ConstraintsUnreadable}
 use Rattle.rules.specs.declared.Outcome.{Outcome}
 use Rattle.rules.specs.declared.Outcome.TheVariants.{Refused}
 use Rattle.reading.specs.Reader.{read_element}
@@ -141,16 +144,16 @@ module _ (R S J C L : List ℕ) where
         )
 
   -- the outcome, by the refusal that comes first
-  abbrev By : ℕ → Type 0
-  By zero = AllRead × (whole ≡ of_names)
-  By (suc n) = Refused (suc n) ≡ whole
+  abbrev By : Result (Unit {0}) Refusal → Type 0
+  By (Ok u) = AllRead × (whole ≡ of_names)
+  By (Err refusal) = Refused refusal ≡ whole
 
   by : By (first_refusal R S J C L)
   unfolding first_refusal outcome_on outcome_of
   by = go (any_long R S J C L) (good_records R) (validated read_san S) (subject_read J) (constraints_read C L) refl refl refl refl refl
     where
       go : (t g a b c : Bool) → any_long R S J C L ≡ t → good_records R ≡ g → validated read_san S ≡ a → subject_read J ≡ b → constraints_read C L ≡ c
-          → By (cond t 7 (cond (not g) 6 (cond (not a) 3 (cond (not b) 4 (cond (not c) 5 0)))))
+          → By (cond t (Err InputTooLong) (cond (not g) (Err RecordsUnreadable) (cond (not a) (Err SanUnreadable) (cond (not b) (Err SubjectUnreadable) (cond (not c) (Err ConstraintsUnreadable) (Ok tt))))))
       go true g a b c et eg ea eb ec = rw (long_is, et)
       go false false a b c et eg ea eb ec = rw (long_is, et, records_is et, eg)
       go false true false b c et eg ea eb ec = rw (long_is, et, records_is et, eg, san_is et, ea)
@@ -161,13 +164,13 @@ module _ (R S J C L : List ℕ) where
         rw (long_is, et, records_is et, eg, san_is et, ea, subject_is et, eb, constraints_is et, ec) (lists et eg ec),
       )
 
-  pub refused_is : (n : ℕ) → n ≡ first_refusal R S J C L → (n ≡ 0 → ⊥) → Refused n ≡ whole
-  refused_is zero e h = absurd (h refl)
-  refused_is (suc n) e h = rw (← e) at by
+  module _ (r : Result (Unit {0}) Refusal) (r_is : r ≡ first_refusal R S J C L) where
+    pub refused_is : (refusal : Refusal) → r ≡ Err refusal → Refused refusal ≡ whole
+    refused_is refusal e = rw (sym r_is ∙ e) at by
 
-  module _ (n : ℕ) (e : n ≡ first_refusal R S J C L) (f : n ≡ 0) where
-    pub all_read : AllRead
-    all_read = (rw (sym e ∙ f) at by).0
+    module _ (u : Unit {0}) (e : r ≡ Ok u) where
+      pub all_read : AllRead
+      all_read = (rw (sym r_is ∙ e) at by).0
 
-    pub judged_is : whole ≡ of_names
-    judged_is = (rw (sym e ∙ f) at by).1
+      pub judged_is : whole ≡ of_names
+      judged_is = (rw (sym r_is ∙ e) at by).1
