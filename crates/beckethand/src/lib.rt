@@ -1,6 +1,6 @@
 // What a C program calls, as a library: `beckethand_c` exports each function under its name, and include/beckethand.h says each call in
 // words. Each function of a verdict takes the four strings and the lengths of the constraints, and answers one number, or all of them.
-#![tactic(auto)]
+#![tactic(auto, using(crate::proofs::Laws::laws))]
 
 ghost use Rattle.std.specs.Prelude.{◌≤◌, ◌≡◌, length};
 ghost use Rattle.rules.specs.Numbers.{san_limit};
@@ -13,7 +13,8 @@ ghost use Rattle.reading.specs.Calls.{inputs, outcome_on, listing_on, table_on, 
 ghost use Rattle.verdict.specs.Judging.{Small, SmallNumbers, SmallPlace};
 
 use issuers::lengths_from_c;
-use rules::{Outcome, Place, Verdict, VerdictNumbers};
+use rules::{Listed, Outcome, Place, Refusal, Row, Verdict, VerdictNumbers, ViewNumbers, Written};
+use verdict::Inputs;
 
 // The version of these calls: major * 10000 + minor * 100 + patch. BECKETHAND_VERSION of include/beckethand.h is the same number.
 pub fn beckethand_version() -> u32
@@ -41,10 +42,16 @@ fn outcome_by(
     ensures { (result ≡ outcome_on (inputs san.now subject.now constraints.now (lengths_from_c lengths.now) references.now))
         × Small san.now subject.now result }
 {
-    let l = lengths_from_c(lengths);
-    let count = l.count;
-    let values = l.values;
-    verdict::outcome(san, subject, constraints, &values[..count], references)
+    match lengths_from_c(lengths) {
+        Some(lengths) => verdict::outcome(Inputs {
+            san,
+            subject,
+            constraints,
+            lengths: lengths.as_slice(),
+            references,
+        }),
+        None => Outcome::Refused(Refusal::InputTooLong),
+    }
 }
 
 // The numbers and the text's place side by side.
@@ -76,9 +83,7 @@ pub fn beckethand_verdict(
     ensures { result ≡ all_numbers (outcome_on (inputs san.now subject.now constraints.now (lengths_from_c lengths.now) references.now)) }
 {
     let o = outcome_by(san, subject, constraints, lengths, references);
-    let v = verdict::numbers(o);
-    let text = verdict::text_of(o);
-    with_place(v, text)
+    with_place(Verdict::from(o), verdict::text_of(o))
 }
 
 // The verdict's answer.
@@ -91,8 +96,7 @@ pub fn beckethand_answer(
 ) -> u32
     ensures { result ≡ (all_numbers (outcome_on (inputs san.now subject.now constraints.now (lengths_from_c lengths.now) references.now))).answer }
 {
-    let n = beckethand_verdict(san, subject, constraints, lengths, references);
-    n.answer
+    beckethand_verdict(san, subject, constraints, lengths, references).answer
 }
 
 // The index of the reference that matches.
@@ -105,8 +109,7 @@ pub fn beckethand_reference(
 ) -> u32
     ensures { result ≡ (all_numbers (outcome_on (inputs san.now subject.now constraints.now (lengths_from_c lengths.now) references.now))).reference }
 {
-    let n = beckethand_verdict(san, subject, constraints, lengths, references);
-    n.reference
+    beckethand_verdict(san, subject, constraints, lengths, references).reference
 }
 
 // The index of the presented identifier that it matches, or of the first that breaks the constraints of an issuer.
@@ -119,8 +122,7 @@ pub fn beckethand_presented(
 ) -> u32
     ensures { result ≡ (all_numbers (outcome_on (inputs san.now subject.now constraints.now (lengths_from_c lengths.now) references.now))).presented }
 {
-    let n = beckethand_verdict(san, subject, constraints, lengths, references);
-    n.presented
+    beckethand_verdict(san, subject, constraints, lengths, references).presented
 }
 
 // Where the identifier's DER element starts.
@@ -133,8 +135,7 @@ pub fn beckethand_start(
 ) -> u32
     ensures { result ≡ (all_numbers (outcome_on (inputs san.now subject.now constraints.now (lengths_from_c lengths.now) references.now))).start }
 {
-    let n = beckethand_verdict(san, subject, constraints, lengths, references);
-    n.start
+    beckethand_verdict(san, subject, constraints, lengths, references).start
 }
 
 // How long that element is.
@@ -147,8 +148,7 @@ pub fn beckethand_length(
 ) -> u32
     ensures { result ≡ (all_numbers (outcome_on (inputs san.now subject.now constraints.now (lengths_from_c lengths.now) references.now))).length }
 {
-    let n = beckethand_verdict(san, subject, constraints, lengths, references);
-    n.length
+    beckethand_verdict(san, subject, constraints, lengths, references).length
 }
 
 // The index of the issuer whose constraints are broken.
@@ -161,8 +161,7 @@ pub fn beckethand_issuer(
 ) -> u32
     ensures { result ≡ (all_numbers (outcome_on (inputs san.now subject.now constraints.now (lengths_from_c lengths.now) references.now))).issuer }
 {
-    let n = beckethand_verdict(san, subject, constraints, lengths, references);
-    n.issuer
+    beckethand_verdict(san, subject, constraints, lengths, references).issuer
 }
 
 // Where the witness's text starts.
@@ -175,8 +174,7 @@ pub fn beckethand_text_start(
 ) -> u32
     ensures { result ≡ (all_numbers (outcome_on (inputs san.now subject.now constraints.now (lengths_from_c lengths.now) references.now))).text_start }
 {
-    let n = beckethand_verdict(san, subject, constraints, lengths, references);
-    n.text_start
+    beckethand_verdict(san, subject, constraints, lengths, references).text_start
 }
 
 // How long it is.
@@ -189,44 +187,39 @@ pub fn beckethand_text_length(
 ) -> u32
     ensures { result ≡ (all_numbers (outcome_on (inputs san.now subject.now constraints.now (lengths_from_c lengths.now) references.now))).text_length }
 {
-    let n = beckethand_verdict(san, subject, constraints, lengths, references);
-    n.text_length
+    beckethand_verdict(san, subject, constraints, lengths, references).text_length
 }
 
 // The record reader's answer.
 pub fn beckethand_record_answer(references: &[u8], index: usize) -> u32
     ensures { result ≡ (shown references.now index).answer }
 {
-    let s = records::show(references, index);
-    narrow(s.answer)
+    narrow(records::show(references, index).answer)
 }
 
 // The kind of the record at an index.
 pub fn beckethand_record_kind(references: &[u8], index: usize) -> u32
     ensures { result ≡ (shown references.now index).kind }
 {
-    let s = records::show(references, index);
-    narrow(s.kind)
+    narrow(records::show(references, index).kind)
 }
 
 // The length of its service.
 pub fn beckethand_record_service_length(references: &[u8], index: usize) -> u32
     ensures { result ≡ (shown references.now index).service }
 {
-    let s = records::show(references, index);
-    narrow(s.service)
+    narrow(records::show(references, index).service)
 }
 
 // The length of its domain.
 pub fn beckethand_record_domain_length(references: &[u8], index: usize) -> u32
     ensures { result ≡ (shown references.now index).domain }
 {
-    let s = records::show(references, index);
-    narrow(s.domain)
+    narrow(records::show(references, index).domain)
 }
 
 // The listing of one of the three certificate strings: `which` is 0 for the SAN, 1 for the subject, else the constraints.
-pub fn beckethand_list(table: &mut [rules::Row], bytes: &[u8], which: usize) -> rules::Listed
+pub fn beckethand_list(table: &mut [Row], bytes: &[u8], which: usize) -> Listed
     ensures { (result ≡ listing_on which bytes.now (length table.old))
         × (table.new ≡ table_on which bytes.now table.old) }
 {
@@ -237,42 +230,14 @@ pub fn beckethand_list(table: &mut [rules::Row], bytes: &[u8], which: usize) -> 
 pub fn beckethand_opening(bytes: &[u8], which: usize) -> u32
     ensures { result ≡ opening_on which bytes.now }
 {
-    let answer = viewer::opening(bytes, which);
-    narrow(answer)
-}
-
-// A step's numbers: the row or zeros, and the position after it.
-fn numbers_of(v: rules::View) -> rules::ViewNumbers
-    ensures { result ≡ view_numbers v }
-{
-    let at = v.at;
-    let sight = v.sight;
-    let rules::Sight::Name(row) = sight else {
-        return rules::ViewNumbers {
-            shown: 0,
-            kind: 0,
-            start: 0,
-            length: 0,
-            group: 0,
-            at: at,
-        };
-    };
-    rules::ViewNumbers {
-        shown: 1,
-        kind: row.kind,
-        start: row.start,
-        length: row.length,
-        group: row.group,
-        at: at,
-    }
+    narrow(viewer::opening(bytes, which))
 }
 
 // What a viewer shows from a position, and its position after that.
-pub fn beckethand_view(bytes: &[u8], which: usize, at: usize) -> rules::ViewNumbers
+pub fn beckethand_view(bytes: &[u8], which: usize, at: usize) -> ViewNumbers
     ensures { result ≡ view_numbers (view_on which bytes.now at) }
 {
-    let v = viewer::viewed(bytes, which, at);
-    numbers_of(v)
+    viewer::viewed(bytes, which, at).into()
 }
 
 // The writer of SAN values.
@@ -281,7 +246,7 @@ pub fn beckethand_write_san(
     texts: &[u8],
     lengths: &[usize],
     kinds: &[u8],
-) -> rules::Written
+) -> Written
     ensures value { result ≡ written_by san_writer (request kinds.now lengths.now texts.now) (length buffer.old) }
     ensures buffer_after { buffer.new ≡ buffer_by san_writer (request kinds.now lengths.now texts.now) buffer.old }
 {
@@ -294,7 +259,7 @@ pub fn beckethand_write_records(
     texts: &[u8],
     lengths: &[usize],
     kinds: &[u8],
-) -> rules::Written
+) -> Written
     ensures value { result ≡ written_by record_writer (request kinds.now lengths.now texts.now) (length buffer.old) }
     ensures buffer_after { buffer.new ≡ buffer_by record_writer (request kinds.now lengths.now texts.now) buffer.old }
 {
