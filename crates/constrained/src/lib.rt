@@ -217,10 +217,10 @@ impl<'a> Identifier<'a> {
     // Whether it lies in one of the subtrees.
     #[inline(always)]
     #[tactic(auto, using(crate::proofs::Meeting::any_laws))]
-    fn lies_in_any(&self, mut subtrees: Subtrees<'_>) -> bool
+    fn lies_in_any(&self, subtrees: Subtrees<'_>) -> bool
         ensures { result ≡ list_any (lies_in (form_of self.now.form) self.now.name.text.now) (subtrees_left subtrees.entry) }
     {
-        while let Some(subtree) = subtrees.next() {
+        for subtree in subtrees {
             if self.lies_in(&subtree) {
                 return true;
             }
@@ -231,10 +231,10 @@ impl<'a> Identifier<'a> {
     // Whether it breaks one of them where they are excluded.
     #[inline(always)]
     #[tactic(auto, using(crate::proofs::Meeting::any_laws))]
-    fn reaches_any(&self, mut subtrees: Subtrees<'_>) -> bool
+    fn reaches_any(&self, subtrees: Subtrees<'_>) -> bool
         ensures { result ≡ list_any (reaches (form_of self.now.form) self.now.name.text.now) (subtrees_left subtrees.entry) }
     {
-        while let Some(subtree) = subtrees.next() {
+        for subtree in subtrees {
             if self.reaches(&subtree) {
                 return true;
             }
