@@ -1,5 +1,6 @@
 // The constraints of all issuers: which entry of a SAN breaks which string first. All strings have been validated, and nothing is judged
-// twice: a name and its form are told by their first bytes. One walk serves SRVNames and dNSNames; the form is a parameter.
+// twice: a name and its form are told by their first bytes. One walk serves SRVNames and dNSNames; the form is a parameter. What is marked
+// `inline(always)` is compiled once for each form, so that a walk does not ask for the form again at each subtree.
 #![tactic(auto)]
 
 ghost use Rattle.std.specs.Prelude.{ℕ, ◌+◌, ◌-◌, ◌≤◌, ◌≡◌, true, false, not, ◌||◌, map, length, IfSome, MatchOption};
@@ -463,7 +464,6 @@ impl<'a> Restrictions<'a> {
     }
 
     // Whether an entry of the SAN breaks the string.
-    #[inline(always)]
     #[tactic(auto, using(crate::proofs::Entry::either))]
     fn broken_by(&self, entry: &ValidName<'_>) -> bool
         ensures { result ≡ breaks (names_of read_constraints self.now.srv.constraints.now) (name_in entry.now) }
