@@ -493,7 +493,7 @@ pub fn first_breach(san: &[u8], constraints: &[u8], lengths: &[usize]) -> Option
     requires san_value { validated read_san san.now ≡ true }
     requires constraints_value { all (validated read_constraints) (strings_in lengths.now constraints.now) ≡ true }
     ensures value { result ≡ breach_of (first_breach 0 (map (names_of read_constraints) (strings_in lengths.now constraints.now)) (names_of read_san san.now)) }
-    ensures bounds { IfSome result (λ b. (b.issuer ≤ 8) × (b.presented ≤ length san.now)) }
+    ensures issuer_bound { IfSome result (λ b. (b.issuer ≤ 8) × (b.presented ≤ length san.now)) }
 {
     if !issuers::lengths_fit(lengths, constraints.len()) {
         return None;
