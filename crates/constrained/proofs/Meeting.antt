@@ -72,3 +72,30 @@ module _ (form : Form) (name : List ℕ) where
       go : (o : Option (List ℕ)) → (if_some o (λ t. form.reaches t name) || any (λ t. form.reaches t name) (texts_of form l)) ≡ any (λ t. form.reaches t name) (with_some o (texts_of form l))
       go none = refl
       go (some t) = refl
+
+-- ---- a walk over subtrees, by the test of each
+
+-- those that are left have one that passes where all have one
+unfoldable pub AnyLeft : (GeneralName → Bool) → List GeneralName → List GeneralName → Type 0
+AnyLeft p all left = list_any p left ≡ list_any p all
+
+module _ (p : GeneralName → Bool) (all : List GeneralName) where
+  pub any_begin : AnyLeft p all all
+  unfolding AnyLeft
+  any_begin = refl
+
+  module _ (left : List GeneralName) (inv : AnyLeft p all left) where
+    pub any_end : left ≡ [] → false ≡ list_any p all
+    unfolding AnyLeft
+    any_end e = rw e at inv
+
+    module _ (m : GeneralName) (rest : List GeneralName) (step : left ≡ m ∷ rest) (r : Bool) (r_is : r ≡ p m) where
+      pub any_here : r ≡ true → true ≡ list_any p all
+      unfolding AnyLeft
+      any_here q = rw (step, ← r_is, q) at inv
+
+      pub any_next : r ≡ false → AnyLeft p all rest
+      unfolding AnyLeft
+      any_next q = rw (step, ← r_is, q) at inv
+
+pub ruleset any_laws = (any_begin, any_end, any_here, any_next)

@@ -15,7 +15,7 @@ use Rattle.rules.specs.Matching.{if_some, Form, subtrees_of, allowed, breaks_as}
 use Rattle.reading.specs.Strings.{read_constraints}
 use Rattle.der.specs.Runs.{names_of}
 use Rattle.entries.specs.Entries.{form_of}
-use Rattle.constrained.specs.Subtrees.{texts_of, texts_in, lies_in, reaches, Narrowed, BothSides, FormSides, restricting}
+use Rattle.constrained.specs.Subtrees.{texts_of, texts_in, lies_in, reaches, restricting}
 use Rattle.constrained.specs.Walks.{subtrees_left}
 use Rattle.constrained.specs.declared.Sides.{Sides}
 use Rattle.constrained.specs.declared.Subtrees.{Subtrees}
@@ -44,17 +44,6 @@ module _ (r : Sides) (p : Bool) (p_is : p ≡ not (ltb r.permitted.start r.permi
       go false false h = refl
 
 pub ruleset any_sides = (any_permitted, any_excluded)
-
--- ---- the sides from their first subtrees of the form on
-
--- each side has the same texts from the first of them on
-pub form_sides_lem : (s : List ℕ) (r : Sides) → BothSides s r → (form : Form) (p x : ℕ) → Narrowed form s r.permitted.start r.permitted.end p
-    → Narrowed form s r.excluded.start r.excluded.end x
-    → FormSides form s (record { permitted = record { start = p; end = r.permitted.end }; excluded = record { start = x; end = r.excluded.end } })
-form_sides_lem s r b form p x m n = record {
-  inside = record { subtrees = m.subtrees; texts = m.texts ∙ b.inside.texts form; any_there = rw (b.inside.texts form) at m.any_there };
-  outside = record { subtrees = n.subtrees; texts = n.texts ∙ b.outside.texts form; any_there = rw (b.outside.texts form) at n.any_there };
-}
 
 -- ---- a presented identifier
 

@@ -1,15 +1,15 @@
 -- A validated name and its text, and one step of a walk over names.
 use Prim.Native.Nat.{ℕ, ◌-◌, ◌≤◌, ◌<◌}
-use mathlib.Core.Path.{◌≡◌, refl, ap, ◌∙◌}
+use mathlib.Core.Path.{◌≡◌, refl, ◌∙◌}
 use mathlib.Core.Option.{none, some}
 use mathlib.Core.List.{[], ◌∷◌}
 use native.Mathlib.Omega.{arith}
-use lib.ListN.{length, take, drop}
+use lib.ListN.{take, drop}
 use Rattle.std.specs.Prelude as std
 use Rattle.std.specs.Prelude.{Some, None}
 use Rattle.std.specs.Iterator.{YieldsFirstBy}
 use Rattle.std.proofs.lemmas.Iterator.{YieldsList}
-use Rattle.std.proofs.lemmas.Iterator.Consumers.{YieldsList-from_first, YieldsList-from_shown}
+use Rattle.std.proofs.lemmas.Iterator.Consumers.{YieldsList-from_first}
 use Rattle.rules.specs.San.{GeneralName}
 use Rattle.reading.specs.Strings.{read_name, read_subtree}
 use Rattle.reading.specs.Answers.{some_of}
@@ -21,7 +21,7 @@ use Rattle.entries.specs.declared.NameForm.{NameForm}
 use Rattle.entries.specs.declared.NameForm.TheVariants.{Srv, Dns}
 use Rattle.entries.proofs.Steps.{with_entry, with_subtree}
 use Rattle.entries.proofs.Texts.{OwnText, own_srv, own_tagged, text_there, text_within, text_not_there}
-use Rattle.constrained.specs.Walks.{name_in, entries_left, subtrees_left, SubtreeGives}
+use Rattle.constrained.specs.Walks.{name_in, entries_left, subtrees_left}
 use Rattle.constrained.specs.declared.ValidName.{ValidName}
 use Rattle.constrained.specs.declared.Entries.{Entries}
 use Rattle.constrained.specs.declared.Subtrees.{Subtrees}
@@ -96,10 +96,7 @@ module _ (s : Subtrees) where
 
 pub ruleset subtree_steps = (subtrees_none, subtrees_step)
 
--- ---- what a walk gives in all
+-- ---- what the walk over entries gives in all
 
 pub all_entries : (s : Entries) → YieldsList (YieldsFirstBy name_in entries_left) name_in s (entries_left s)
 all_entries s = YieldsList-from_first name_in entries_left _ refl
-
-pub all_subtrees : (s : Subtrees) → YieldsList SubtreeGives name_in s (subtrees_left s)
-all_subtrees s = YieldsList-from_shown SubtreeGives name_in subtrees_left (λ u t h. ap length h.0.0) (λ u x t h. h.0) s

@@ -1,9 +1,11 @@
 // The constraints of all issuers: which entry of a SAN breaks which string first. All strings have been validated, and nothing is judged
-// twice: a name and its form are told by their first bytes. One walk serves SRVNames and dNSNames; the form is a parameter.
+// twice: a name and its form are told by their first bytes. One walk serves SRVNames and dNSNames; the form is a parameter. What is marked
+// `inline(always)` is compiled once for each form, so that a walk does not ask for the form again at each subtree.
 #![tactic(auto)]
 
 ghost use Rattle.std.specs.Prelude.{ℕ, ◌+◌, ◌-◌, ◌≤◌, ◌≡◌, true, false, not, ◌||◌, map, length, IfSome, MatchOption};
 ghost use Rattle.std.specs.Iterator.{at_most, YieldsFirstBy};
+ghost use Rattle.std.specs.List.{list_any};
 ghost use Rattle.std.proofs.Math.Option.{none, some};
 ghost use Rattle.std.proofs.Math.Dec.{ltb};
 ghost use Rattle.rules.specs.Bytes.{all};
@@ -40,6 +42,7 @@ impl<'a> ValidName<'a> {
     ghost use Rattle.constrained.specs.Walks.{name_in};
 
     // Its text, if it is of the form.
+    #[inline(always)]
     #[tactic(auto, using(crate::proofs::Walks::texts))]
     fn text(&self, form: NameForm) -> Option<&'a [u8]>
         ensures { MatchOption result ((form_of form).text (name_in self.now) ≡ none) (λ text. (form_of form).text (name_in self.now) ≡ some text.now) }
@@ -163,7 +166,7 @@ struct Identifier<'a> {
 }
 
 impl<'a> Identifier<'a> {
-    ghost use Rattle.constrained.specs.Walks.{name_in};
+    ghost use Rattle.constrained.specs.Walks.{name_in, subtrees_left};
 
     // The text as one, if it is one.
     fn new(form: NameForm, text: &'a [u8]) -> Option<Self>
@@ -183,6 +186,7 @@ impl<'a> Identifier<'a> {
     }
 
     // Whether it lies in a subtree; in one of another form it does not.
+    #[inline(always)]
     #[tactic(auto, using(crate::proofs::Meeting::lies))]
     fn lies_in(&self, subtree: &ValidName<'_>) -> bool
         ensures { result ≡ lies_in (form_of self.now.form) self.now.name.text.now (name_in subtree.now) }
@@ -197,6 +201,7 @@ impl<'a> Identifier<'a> {
     }
 
     // Whether it breaks a subtree that is excluded.
+    #[inline(always)]
     #[tactic(auto, using(crate::proofs::Meeting::reaching))]
     fn reaches(&self, subtree: &ValidName<'_>) -> bool
         ensures { result ≡ reaches (form_of self.now.form) self.now.name.text.now (name_in subtree.now) }
@@ -208,6 +213,34 @@ impl<'a> Identifier<'a> {
             NameForm::Srv => srv::in_subtree(text, self.name),
             NameForm::Dns => dns::dns_reaches(text, self.name.text),
         }
+    }
+
+    // Whether it lies in one of the subtrees.
+    #[inline(always)]
+    #[tactic(auto, using(crate::proofs::Meeting::any_laws))]
+    fn lies_in_any(&self, subtrees: Subtrees<'_>) -> bool
+        ensures { result ≡ list_any (lies_in (form_of self.now.form) self.now.name.text.now) (subtrees_left subtrees.entry) }
+    {
+        for subtree in subtrees {
+            if self.lies_in(&subtree) {
+                return true;
+            }
+        }
+        false
+    }
+
+    // Whether it breaks one of them where they are excluded.
+    #[inline(always)]
+    #[tactic(auto, using(crate::proofs::Meeting::any_laws))]
+    fn reaches_any(&self, subtrees: Subtrees<'_>) -> bool
+        ensures { result ≡ list_any (reaches (form_of self.now.form) self.now.name.text.now) (subtrees_left subtrees.entry) }
+    {
+        for subtree in subtrees {
+            if self.reaches(&subtree) {
+                return true;
+            }
+        }
+        false
     }
 }
 
@@ -315,6 +348,7 @@ struct FormSubtrees<'a> {
 impl<'a> FormSubtrees<'a> {
     ghost use Rattle.constrained.specs.Walks.{name_in, subtrees_left};
 
+    #[inline(always)]
     fn new(form: NameForm, constraints: &'a [u8], sides: Sides) -> Self
         requires { BothSides constraints.now sides }
         ensures form { result.form ≡ form }
@@ -370,6 +404,7 @@ impl<'a> FormSubtrees<'a> {
 
     // "each presented SRVName must be an SRV-ID, lie in no excluded SRVName subtree, and, if any permitted SRVName subtree exists,
     // lie in one"; of dNSNames the same.
+    #[inline(always)]
     fn allows(&self, text: &[u8]) -> bool
         requires { restricting self.now.sides ≡ true }
         ensures { result ≡ rules.allowed (form_of self.now.form) (names_of read_constraints self.now.constraints.now) text.now }
@@ -377,13 +412,14 @@ impl<'a> FormSubtrees<'a> {
         let Some(id) = Identifier::new(self.form, text) else {
             return false;
         };
-        if self.excluded().any(|subtree| id.reaches(&subtree)) {
+        if id.reaches_any(self.excluded()) {
             return false;
         }
-        self.sides.permitted.is_empty() || self.permitted().any(|subtree| id.lies_in(&subtree))
+        self.sides.permitted.is_empty() || id.lies_in_any(self.permitted())
     }
 
     // Whether an entry of the SAN is a name of the form that breaks the string.
+    #[inline(always)]
     #[tactic(auto, using(crate::proofs::Permission::breaking))]
     fn broken_by(&self, entry: &ValidName<'_>) -> bool
         ensures { result ≡ breaks_as (form_of self.now.form) (names_of read_constraints self.now.constraints.now) (name_in entry.now) }
@@ -457,7 +493,7 @@ pub fn first_breach(san: &[u8], constraints: &[u8], lengths: &[usize]) -> Option
     requires san_value { validated read_san san.now ≡ true }
     requires constraints_value { all (validated read_constraints) (strings_in lengths.now constraints.now) ≡ true }
     ensures value { result ≡ breach_of (first_breach 0 (map (names_of read_constraints) (strings_in lengths.now constraints.now)) (names_of read_san san.now)) }
-    ensures bounds { IfSome result (λ b. (b.issuer ≤ 8) × (b.presented ≤ length san.now)) }
+    ensures issuer_bound { IfSome result (λ b. (b.issuer ≤ 8) × (b.presented ≤ length san.now)) }
 {
     if !issuers::lengths_fit(lengths, constraints.len()) {
         return None;
