@@ -1,4 +1,5 @@
-// A walk over the names of a certificate string: each step shows the row of one name.
+// A walk over the names of a certificate string: each step shows the row of one name. What a step calls is written into the loop that
+// walks, so that the cursor stays in registers.
 #![tactic(auto, using(crate::proofs::Laws::laws))]
 
 ghost use Rattle.std.specs.Prelude.{◌≤◌, ◌≡◌, length};
@@ -115,6 +116,7 @@ impl Source {
     }
 
     // What an element of a part is as a name.
+    #[inline(always)]
     fn shape(self, s: &[u8], element: Element) -> Result<Name, Unreadable>
         requires start_le_next { element.start ≤ element.next }
         requires next_in_bounds { element.next ≤ length s.now }
@@ -140,6 +142,7 @@ impl Source {
 
     // What follows a name that ends at `next`, in the part of the cursor `c`: the next of this part, or the first of the next part.
     // "Group: entry index", "RDN index".
+    #[inline(always)]
     fn after(self, s: &[u8], next: usize, c: Cursor) -> Cursor
         requires { next ≤ length s.now }
         ensures { result ≡ after_name self s.now next c.end c.group }
@@ -161,6 +164,7 @@ impl Source {
     }
 
     // The name at the cursor, if one stands there.
+    #[inline(always)]
     #[tactic(auto, using(crate::proofs::Laws::names))]
     pub fn step(self, s: &[u8], c: Cursor) -> Option<Step>
         ensures { result ≡ step self s.now c }
@@ -209,6 +213,7 @@ impl<'a> Iterator for Rows<'a> {
 
     ghost remaining = { item_count rows_left };
 
+    #[inline(always)]
     fn next(&mut self) -> Option<Row> {
         let shown = self.source.step(self.bytes, self.cursor)?;
         self.cursor = shown.next;
