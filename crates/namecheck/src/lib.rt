@@ -10,10 +10,13 @@ ghost use Rattle.reading.specs.Calls.{inputs, verdict_on};
 ghost use Rattle.namecheck.specs.Code.{code};
 ghost use Rattle.namecheck.specs.Status.{one_length, status_of};
 
+use listing::ListRefusal;
 use std::env::FillError;
 use std::io::{ErrorKind, Read, Write};
 use std::rt::{Env, Files};
 use std::{fs, io};
+use steps::Source;
+use verdict::Inputs;
 
 // "has at most 512"
 const MOST_ROWS: usize = 512;
@@ -115,16 +118,16 @@ fn show_row(rt: &impl Print, r: rules::Row) {
 
 // The rows of a SAN, or how many there are where that is too many. Nothing for one that is too long or unreadable.
 fn show_rows(rt: &impl Print, san: &[u8]) {
-    let plan = listing::planned(san, MOST_ROWS, 0);
-    if plan.listed.answer == rules::TABLE_TOO_SHORT {
-        let _ = println!(rt; "rows {}", plan.listed.count);
-        return;
-    }
-    let mut at = plan.first;
-    for _ in 0..plan.rows {
-        let step = listing::step_at(san, 0, at);
-        show_row(rt, step.row);
-        at = step.next;
+    match listing::planned(san, MOST_ROWS, Source::San) {
+        Ok(names) => {
+            for row in names.rows {
+                show_row(rt, row);
+            }
+        }
+        Err(ListRefusal::TableTooShort(count)) => {
+            let _ = println!(rt; "rows {count}");
+        }
+        Err(ListRefusal::Refused(_)) => {}
     }
 }
 
@@ -140,9 +143,19 @@ pub fn judge(
 ) -> u32
     ensures { result ≡ status_of (verdict_on (inputs san.now subject.now constraints.now (some (one_length constraints.now)) references.now)) }
 {
+    let asked = Inputs {
+        san,
+        subject,
+        constraints,
+        lengths: &[],
+        references,
+    };
     let verdict = match constraints.len() {
-        0 => verdict::verdict(san, subject, constraints, &[], references),
-        n => verdict::verdict(san, subject, constraints, &[n], references),
+        0 => verdict::verdict(asked),
+        n => verdict::verdict(Inputs {
+            lengths: &[n],
+            ..asked
+        }),
     };
     show_verdict(rt, verdict);
     show_rows(rt, san);

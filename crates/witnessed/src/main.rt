@@ -4,15 +4,7 @@
 #![tactic(auto)]
 
 use std::io;
-
-// What the verdict is on besides the references.
-#[derive(Clone, Copy)]
-struct Certificate<'a> {
-    san: &'a [u8],
-    subject: &'a [u8],
-    constraints: &'a [u8],
-    lengths: &'a [usize],
-}
+use verdict::Inputs;
 
 // A subject with the CN `a.b.c`.
 const SUBJECT: &[u8] = b"\x30\x10\x31\x0E\x30\x0C\x06\x03\x55\x04\x03\x0C\x05a.b.c";
@@ -21,47 +13,48 @@ const SUBJECT: &[u8] = b"\x30\x10\x31\x0E\x30\x0C\x06\x03\x55\x04\x03\x0C\x05a.b
 const SRV_NAME: &[u8] =
     b"\x30\x18\xA0\x16\x06\x08\x2B\x06\x01\x05\x05\x07\x08\x07\xA0\x0A\x16\x08_m.a.b.c";
 
-// No SAN, a subject whose CN matches, and no constraints.
-const PLAIN: Certificate = Certificate {
+// No SAN, a subject whose CN matches, and no constraints; the references are put in later.
+const PLAIN: Inputs = Inputs {
     san: b"",
     subject: SUBJECT,
     constraints: b"",
     lengths: &[],
+    references: b"",
 };
 
-const CASES: [(&str, Certificate); 12] = [
+const CASES: [(&str, Inputs); 12] = [
     // Matches in the SAN.
     (
         "dNSName",
-        Certificate {
+        Inputs {
             san: b"\x30\x07\x82\x05a.b.c",
             ..PLAIN
         },
     ),
     (
         "wildcard",
-        Certificate {
+        Inputs {
             san: b"\x30\x07\x82\x05*.b.c",
             ..PLAIN
         },
     ),
     (
         "second name",
-        Certificate {
+        Inputs {
             san: b"\x30\x0E\x82\x05x.b.c\x82\x05A.B.C",
             ..PLAIN
         },
     ),
     (
         "SRVName",
-        Certificate {
+        Inputs {
             san: SRV_NAME,
             ..PLAIN
         },
     ),
     (
         "URI",
-        Certificate {
+        Inputs {
             san: b"\x30\x0B\x86\x09m://a.b.c",
             ..PLAIN
         },
@@ -70,7 +63,7 @@ const CASES: [(&str, Certificate); 12] = [
     ("CN", PLAIN),
     (
         "CN of the second set",
-        Certificate {
+        Inputs {
             san: b"\x30\x03\x81\x01@",
             subject: b"\x30\x1A\x31\x08\x30\x06\x06\x01\x2A\x0C\x01\x62\x31\x0E\x30\x0C\x06\x03\x55\x04\x03\x13\x05*.b.c",
             ..PLAIN
@@ -79,21 +72,21 @@ const CASES: [(&str, Certificate); 12] = [
     // No match: another name, an unreadable SAN, and an SRVName outside the only permitted subtree.
     (
         "mismatch",
-        Certificate {
+        Inputs {
             san: b"\x30\x07\x82\x05x.b.c",
             ..PLAIN
         },
     ),
     (
         "unreadable",
-        Certificate {
+        Inputs {
             san: b"\x30\x00",
             ..PLAIN
         },
     ),
     (
         "constraints broken",
-        Certificate {
+        Inputs {
             san: SRV_NAME,
             constraints: b"\x30\x16\xA0\x14\x30\x12\xA0\x10\x06\x08\x2B\x06\x01\x05\x05\x07\x08\x07\xA0\x04\x16\x02_n",
             lengths: &[24],
@@ -104,7 +97,7 @@ const CASES: [(&str, Certificate); 12] = [
     // no constraints and the third permits `d`.
     (
         "two issuers",
-        Certificate {
+        Inputs {
             san: b"\x30\x07\x82\x05a.b.c",
             constraints: b"\x30\x07\xA0\x05\x30\x03\x82\x01c\x30\x07\xA1\x05\x30\x03\x82\x01d",
             lengths: &[9, 9],
@@ -113,7 +106,7 @@ const CASES: [(&str, Certificate); 12] = [
     ),
     (
         "third issuer's constraints broken",
-        Certificate {
+        Inputs {
             san: b"\x30\x07\x82\x05a.b.c",
             constraints: b"\x30\x07\xA0\x05\x30\x03\x82\x01c\x30\x07\xA0\x05\x30\x03\x82\x01d",
             lengths: &[9, 0, 9],
@@ -135,26 +128,15 @@ fn record(kind: u8, service: Option<u8>) -> [u8; rules::RECORD_SIZE] {
     record
 }
 
-fn show(
-    rt: &impl Print,
-    title: &str,
-    certificate: Certificate,
-    references: &[u8],
-) -> io::Result<()> {
-    let Certificate {
-        san,
-        subject,
-        constraints,
-        lengths,
-    } = certificate;
-    let v = verdict::verdict(san, subject, constraints, lengths, references);
+fn show(rt: &impl Print, title: &str, inputs: Inputs) -> io::Result<()> {
+    let v = verdict::verdict(inputs);
     print!(rt;
         "{title}: {} {} {} {} {} {}",
         v.answer, v.reference, v.presented, v.start, v.length, v.issuer
     )?;
-    let place = verdict::text_place(san, subject, constraints, lengths, references);
+    let place = verdict::text_place(inputs);
     print!(rt; "; {} {}; \"", place.start, place.length)?;
-    rt.write_all(verdict::witness(san, subject, constraints, lengths, references))?;
+    rt.write_all(verdict::witness(inputs))?;
     rt.println("\"")
 }
 
@@ -165,8 +147,16 @@ fn main(rt: HostRuntime) -> io::Result<()> {
         record(rules::URI, Some(b'm')),
         record(rules::CN, None),
     ];
+    let references = records.as_flattened();
     for (title, certificate) in CASES {
-        show(&rt, title, certificate, records.as_flattened())?;
+        show(
+            &rt,
+            title,
+            Inputs {
+                references,
+                ..certificate
+            },
+        )?;
     }
     Ok(())
 }
