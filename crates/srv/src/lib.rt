@@ -100,7 +100,9 @@ fn service_is(service: &[u8], name: &[u8]) -> bool
 
 // "It lies in a subtree if the service is equal, without case, where one is given, and the subtree's labels are the last
 // labels of its domain where a domain is given." The name is an SRV-ID: a subtree with its service has its own first dot where the name
-// has it, or ends there. The domain is compared first, as it differs more often.
+// has it, or ends there. The domain is compared first, as it differs more often. It is asked of each subtree, and marked so that the compiler
+// writes it into those loops.
+#[inline(always)]
 pub fn in_subtree(subtree: &[u8], name: Dotted<'_>) -> bool
     requires { srv_id name.text.now ≡ true }
     ensures { result ≡ in_subtree subtree.now name.entry.text.now }
