@@ -3,13 +3,13 @@ use Prim.Native.Nat.{ℕ, ◌≤◌}
 use mathlib.Core.Path.{◌≡◌, refl, sym, ap, ◌∙◌}
 use mathlib.Core.Bool.{Bool, true, false, cond, ◌||◌}
 use mathlib.Core.List.{List}
-use mathlib.Core.Option.{Option, none, some}
+use mathlib.Core.Option.{Option, some}
 use native.Mathlib.Omega.{arith}
 use lib.Dec.{eqb}
 use lib.Seq.{length-take-le}
 use Rattle.rules.specs.Numbers.{san_limit}
-use Rattle.rules.specs.Seen.{Seen, too_long, unreadable, listed, lengths_from_c, strings_by, seen_records}
-use Rattle.rules.specs.Verdict.{is_long, outcome_of, numbers_of, witness_part, with_place, all_numbers}
+use Rattle.rules.specs.Seen.{Seen, too_long, unreadable, listed, lengths_from_c, strings_of, strings_by}
+use Rattle.rules.specs.Verdict.{numbers_of, witness_part, with_place, all_numbers}
 use Rattle.rules.specs.Viewer.{opening_of, view_numbers}
 use Rattle.rules.specs.declared.Row.{Row}
 use Rattle.rules.specs.declared.Verdict.{Verdict}
@@ -17,13 +17,10 @@ use Rattle.rules.specs.declared.Place.{Place}
 use Rattle.rules.specs.declared.VerdictNumbers.{VerdictNumbers}
 use Rattle.rules.specs.declared.Outcome.{Outcome}
 use Rattle.rules.specs.declared.Shown.{Shown}
-use Rattle.rules.specs.declared.Refusal.TheVariants.{InputTooLong}
-use Rattle.rules.specs.declared.Outcome.TheVariants.{Refused}
 use Rattle.rules.specs.declared.View.{View}
 use Rattle.rules.specs.declared.ViewNumbers.{ViewNumbers}
-use Rattle.reading.specs.Views.{seen_san, seen_subject}
 use Rattle.reading.specs.Calls.{Inputs, inputs, seen_issuers, outcome_on, refusal_of, seen_rows, opening_on}
-use Rattle.verdict.specs.Judging.{Small, numbers_are_small, place_is_small}
+use Rattle.verdict.specs.Judging.{numbers_are_small, place_is_small}
 
 -- ---- the outcome, by the lengths that C hands over
 
@@ -33,26 +30,10 @@ module _ (S J C R : List ℕ) where
   unfolding outcome_on seen_issuers
   same_strings l m e = rw e
 
-  -- what is no lengths for any bytes is refused
-  or_last : (a b c : Bool) → (a || b || c || true) ≡ true
-  or_last true b c = refl
-  or_last false true c = refl
-  or_last false false true = refl
-  or_last false false false = refl
-
-  no_strings : (l : Option (List ℕ)) → strings_by l C ≡ none → Refused InputTooLong ≡ outcome_on (inputs S J C l R)
-  unfolding outcome_on seen_issuers outcome_of
-  no_strings l e = rw (e, or_last (is_long (seen_records R)) (is_long (seen_san S)) (is_long (seen_subject J)))
-
-  pub outcome_none : (b : List ℕ) → ((bytes : List ℕ) → strings_by (lengths_from_c b) bytes ≡ none) → Refused InputTooLong ≡ outcome_on (inputs S J C (lengths_from_c b) R)
-  outcome_none b e = no_strings (lengths_from_c b) (e C)
-
-  pub outcome_some : (b l : List ℕ) → lengths_from_c b ≡ some l → (o : Outcome) → o ≡ outcome_on (inputs S J C (some l) R) → o ≡ outcome_on (inputs S J C (lengths_from_c b) R)
-  outcome_some b l e o f = f ∙ ap (λ m. outcome_on (inputs S J C m R)) (sym e)
-
-pub refused_is_small : (S J : List ℕ) → Small S J (Refused InputTooLong)
-unfolding Small
-refused_is_small S J = tt
+  pub outcome_by_lem : (b l : List ℕ) → ((bytes : List ℕ) → strings_of l bytes ≡ strings_by (lengths_from_c b) bytes)
+      → (o : Outcome) → o ≡ outcome_on (inputs S J C (some l) R) → o ≡ outcome_on (inputs S J C (lengths_from_c b) R)
+  unfolding strings_by
+  outcome_by_lem b l e o f = f ∙ same_strings (some l) (lengths_from_c b) (e C)
 
 module _ (i : Inputs) (o : Outcome) (o_is : o ≡ outcome_on i) where
   -- all numbers are those of one outcome
@@ -99,9 +80,7 @@ numbers_same v w e n f = f ∙ ap view_numbers e
 
 pub ruleset laws = (
   length-take-le,
-  outcome_none,
-  outcome_some,
-  refused_is_small,
+  outcome_by_lem,
   numbers_are_small,
   place_is_small,
   all_by,

@@ -42,16 +42,14 @@ fn outcome_by(
     ensures { (result ≡ outcome_on (inputs san.now subject.now constraints.now (lengths_from_c lengths.now) references.now))
         × Small san.now subject.now result }
 {
-    match lengths_from_c(lengths) {
-        Some(lengths) => verdict::outcome(Inputs {
-            san,
-            subject,
-            constraints,
-            lengths: lengths.as_slice(),
-            references,
-        }),
-        None => Outcome::Refused(Refusal::InputTooLong),
-    }
+    let lengths = lengths_from_c(lengths);
+    verdict::outcome(Inputs {
+        san,
+        subject,
+        constraints,
+        lengths: lengths.as_slice(),
+        references,
+    })
 }
 
 // The numbers and the text's place side by side.

@@ -23,7 +23,7 @@ ghost use Rattle.constrained.specs.Subtrees.{texts_of, lies_in, reaches, Narrowe
 ghost use Rattle.constrained.specs.Breaches.{first_of, breach_of};
 
 use der::{content_start, element_end, read_element};
-use entries::{NameForm, name_text};
+use entries::{NameForm, form_text};
 use octets::Dotted;
 use rules::Breach;
 
@@ -47,7 +47,7 @@ impl<'a> ValidName<'a> {
     fn text(&self, form: NameForm) -> Option<&'a [u8]>
         ensures { MatchOption result ((form_of form).text (name_in self.now) ≡ none) (λ text. (form_of form).text (name_in self.now) ≡ some text.now) }
     {
-        let start = name_text(self.bytes, self.start, self.end, form)?;
+        let start = form_text(self.bytes, self.start, self.end, form)?;
         Some(&self.bytes[start..self.end])
     }
 }

@@ -8,7 +8,7 @@ ghost use Rattle.rules.specs.Matching.{srv_text, tagged_text};
 ghost use Rattle.reading.specs.Reader.{is_some, raw};
 ghost use Rattle.reading.specs.Strings.{read_name};
 ghost use Rattle.rules.specs.Bytes.{same};
-ghost use Rattle.entries.specs.Entries.{other_kind, other_at, name_at, kind_by, attribute_at, subtree_at, good_name_at, good_subtree_name_at, good_subtree_at, form_of, whole_at, text_place};
+ghost use Rattle.entries.specs.Entries.{other_kind, other_at, name_at, kind_by, attribute_at, subtree_at, good_name_at, good_subtree_name_at, good_subtree_at, form_of, form_by, whole_at, text_place};
 
 use der::{ElementError, content_start, read_element, tagged, value};
 use dns::dns_restriction;
@@ -55,6 +55,18 @@ impl From<ElementError> for Unreadable {
 pub enum NameForm {
     Srv,
     Dns,
+}
+
+impl From<usize> for NameForm {
+    ghost from_gives = { λ kind form. form ≡ form_by kind };
+
+    fn from(kind: usize) -> NameForm {
+        if kind == SRV_NAME {
+            NameForm::Srv
+        } else {
+            NameForm::Dns
+        }
+    }
 }
 
 // Whether an OID is that of an SRVName: eight bytes, compared as one number.
@@ -317,7 +329,7 @@ pub fn tagged_text(s: &[u8], at: usize, end: usize, tag: u8) -> Option<usize>
 }
 
 // The same of a name of a form that constraints restrict. Nothing is judged again.
-pub fn name_text(s: &[u8], at: usize, end: usize, form: NameForm) -> Option<usize>
+pub fn form_text(s: &[u8], at: usize, end: usize, form: NameForm) -> Option<usize>
     requires at_bound { at + 2 ≤ end }
     requires end_in_bounds { end ≤ length s.now }
     requires end_value { is_some (whole_at s.now at end) ≡ true }
@@ -327,4 +339,14 @@ pub fn name_text(s: &[u8], at: usize, end: usize, form: NameForm) -> Option<usiz
         NameForm::Srv => srv_text(s, at, end),
         NameForm::Dns => tagged_text(s, at, end, 0x82),
     }
+}
+
+// The same by the form's kind in the listing: 9 an SRVName, else a dNSName.
+pub fn name_text(s: &[u8], at: usize, end: usize, kind: usize) -> Option<usize>
+    requires at_bound { at + 2 ≤ end }
+    requires end_in_bounds { end ≤ length s.now }
+    requires end_value { is_some (whole_at s.now at end) ≡ true }
+    ensures { result ≡ text_place (form_of (form_by kind)).text s.now at end }
+{
+    form_text(s, at, end, NameForm::from(kind))
 }

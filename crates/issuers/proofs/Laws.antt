@@ -147,4 +147,18 @@ module _ (b : List ℕ) where
   pub c_read : length b % 2 ≡ 0 → (values : List ℕ) (count : ℕ) → take count values ≡ pairs b → lengths_from_c b ≡ some (take count values)
   c_read e values count h = rw (from_even b e, h)
 
+-- ---- nine zeros, in the place of none
+
+-- they are no lengths for any bytes
+pub from_none : (b : List ℕ) → ((bytes : List ℕ) → strings_by (lengths_from_c b) bytes ≡ none) → (bytes : List ℕ)
+    → strings_of (0 ∷ 0 ∷ 0 ∷ 0 ∷ 0 ∷ 0 ∷ 0 ∷ 0 ∷ 0 ∷ []) bytes ≡ strings_by (lengths_from_c b) bytes
+unfolding strings_of lengths_fit
+from_none b h bytes = sym (h bytes)
+
+pub from_some : (b l : List ℕ) → lengths_from_c b ≡ some l → (bytes : List ℕ) → strings_of l bytes ≡ strings_by (lengths_from_c b) bytes
+unfolding strings_by
+from_some b l e bytes = rw e
+
+pub ruleset from_c = (from_none, from_some)
+
 pub ruleset laws = (fit_many, fit_few, of_wrong, of_past, c_odd, c_many, pairs_begin, first_within, others_whole, right_whole, right_strings, wrong_strings_lem)

@@ -45,12 +45,12 @@ pub fn strings_of<'a>(lengths: &'a [usize], bytes: &'a [u8]) -> Option<Strings<'
     }
 }
 
-// Lengths that C hands over, no more than there may be issuers.
+// Lengths that C hands over: how many, and each. Nine are no lengths for any bytes.
 #[derive(Clone, Copy)]
 pub struct Lengths {
     pub count: usize,
-    pub values: [usize; 8],
-    ghost count_in_bounds: { count ≤ 8 },
+    pub values: [usize; 9],
+    ghost count_in_bounds: { count ≤ 9 },
 }
 
 impl Lengths {
@@ -63,16 +63,31 @@ impl Lengths {
 
 // "From C each length is two bytes, high first; an odd count is 7", and so is a ninth length: neither are lengths for any bytes.
 #[tactic(auto, using(crate::proofs::Laws::laws))]
-pub fn lengths_from_c(b: &[u8]) -> Option<Lengths>
+fn read_lengths(b: &[u8]) -> Option<Lengths>
     ensures { MatchOption result ((bytes : List ℕ) → strings_by (lengths_from_c b.now) bytes ≡ none) (λ lengths. lengths_from_c b.now ≡ some (take lengths.count lengths.values)) }
 {
     let count = b.len() / 2;
     if b.len() % 2 != 0 || MOST_ISSUERS < count {
         return None;
     }
-    let mut values = [0; MOST_ISSUERS];
+    let mut values = [0; MOST_ISSUERS + 1];
     for (i, pair) in b.chunks_exact(2).enumerate() {
         values[i] = usize::from(pair[0]) * 256 + usize::from(pair[1]);
     }
     Some(Lengths { count, values })
+}
+
+// The same, where what is no lengths becomes nine zeros, so that every call on C's bytes is the same call on numbers.
+#[tactic(auto, using(crate::proofs::Laws::from_c))]
+pub fn lengths_from_c(b: &[u8]) -> Lengths
+    ensures by_index { (bytes : List ℕ) → strings_of (take result.count result.values) bytes ≡ strings_by (lengths_from_c b.now) bytes }
+    ensures count_in_bounds { result.count ≤ length result.values }
+{
+    match read_lengths(b) {
+        Some(lengths) => lengths,
+        None => Lengths {
+            count: 9,
+            values: [0; 9],
+        },
+    }
 }

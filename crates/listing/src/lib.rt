@@ -1,11 +1,12 @@
 // The listing of a certificate string into a table that the caller lends. `planned` judges the string and the table; `fill` alone
-// touches the table.
+// touches the table. `which` is 0 for the SAN, 1 for the subject, any other number for the constraints.
 #![tactic(auto, using(crate::proofs::Laws::laws))]
 
 ghost use Rattle.std.specs.Prelude.{◌≤◌, ◌≡◌, length};
 ghost use Rattle.reading.specs.Calls.{listing_on, table_on};
 ghost use Rattle.listing.specs.Plans.{limit_of, unreadable_of, count_of, opened_of, plan_of, table_with, told};
 ghost use Rattle.steps.specs.Rows.{rows_left};
+ghost use Rattle.steps.specs.Steps.{source_of};
 
 use entries::Unreadable;
 use rules::{Listed, Refusal, Row};
@@ -91,9 +92,10 @@ fn count(bytes: &[u8], source: Source) -> Result<usize, Unreadable>
 }
 
 // A string by itself, for a table with room: "7, then 3, 4 or 5", else its names.
-pub fn opened<'a>(bytes: &'a [u8], source: Source) -> Result<Names<'a>, Refusal>
-    ensures { result ≡ opened_of source bytes.entry }
+pub fn opened<'a>(bytes: &'a [u8], which: usize) -> Result<Names<'a>, Refusal>
+    ensures { result ≡ opened_of (source_of which) bytes.entry }
 {
+    let source = Source::from(which);
     if bytes.len() > limit(source) {
         return Err(Refusal::InputTooLong);
     }
@@ -107,10 +109,10 @@ pub fn opened<'a>(bytes: &'a [u8], source: Source) -> Result<Names<'a>, Refusal>
 }
 
 // The same for a table of `lent` rows: "then 8 with the count needed, given exactly when that exceeds the rows lent."
-pub fn planned<'a>(bytes: &'a [u8], lent: usize, source: Source) -> Result<Names<'a>, ListRefusal>
-    ensures { result ≡ plan_of source bytes.entry lent }
+pub fn planned<'a>(bytes: &'a [u8], lent: usize, which: usize) -> Result<Names<'a>, ListRefusal>
+    ensures { result ≡ plan_of (source_of which) bytes.entry lent }
 {
-    let names = opened(bytes, source)?;
+    let names = opened(bytes, which)?;
     if names.count > lent {
         return Err(ListRefusal::TableTooShort(names.count));
     }
@@ -128,13 +130,12 @@ fn fill(table: &mut [Row], rows: Rows)
 }
 
 // "Rows (kind, start, length, group) go into a table lent as a slice of such records, one for each SAN entry, attribute or
-// subtree in byte order." "Rows past the count, and all rows after a refusal, stay." `which` is 0 for the SAN, 1 for the subject, any
-// other number for the constraints.
+// subtree in byte order." "Rows past the count, and all rows after a refusal, stay."
 pub fn list(table: &mut [Row], bytes: &[u8], which: usize) -> Listed
     ensures { (result ≡ listing_on which bytes.now (length table.old))
         × (table.new ≡ table_on which bytes.now table.old) }
 {
-    match planned(bytes, table.len(), which.into()) {
+    match planned(bytes, table.len(), which) {
         Ok(names) => {
             fill(table, names.rows);
             Listed {

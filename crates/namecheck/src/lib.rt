@@ -15,8 +15,10 @@ use std::env::FillError;
 use std::io::{ErrorKind, Read, Write};
 use std::rt::{Env, Files};
 use std::{fs, io};
-use steps::Source;
 use verdict::Inputs;
+
+// The number of the SAN among the strings that are listed.
+const SAN: usize = 0;
 
 // "has at most 512"
 const MOST_ROWS: usize = 512;
@@ -59,9 +61,9 @@ impl From<rules::Verdict> for Status {
 fn reason(error: io::Error, room: &mut [u8; 256]) -> &str {
     let mut left = &mut room[..];
     let _ = write!(left, "{error}");
-    let text = str::from_utf8(&room[..]).unwrap_or("");
-    let words = text.split_once('(').map_or(text, |(words, _)| words);
-    words.trim_end_matches('\0').trim_end()
+    let end = octets::find(room, b'(');
+    let text = str::from_utf8(&room[..end]).unwrap_or("");
+    text.trim_end_matches('\0').trim_end()
 }
 
 // Reads until the buffer is full or the file ends. A read that fails part of the way is a failure: what came before it is not the
@@ -118,7 +120,7 @@ fn show_row(rt: &impl Print, r: rules::Row) {
 
 // The rows of a SAN, or how many there are where that is too many. Nothing for one that is too long or unreadable.
 fn show_rows(rt: &impl Print, san: &[u8]) {
-    match listing::planned(san, MOST_ROWS, Source::San) {
+    match listing::planned(san, MOST_ROWS, SAN) {
         Ok(names) => {
             for row in names.rows {
                 show_row(rt, row);

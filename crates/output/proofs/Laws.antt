@@ -4,9 +4,9 @@ use mathlib.Core.Path.{◌≡◌, refl, sym, ◌∙◌}
 use mathlib.Core.List.{List, [], ◌∷◌, ◌++◌, append_assoc, append-nil}
 use native.Mathlib.Nat.{add_assoc, add-zero}
 use native.Mathlib.Omega.{arith}
-use lib.ListN.{length, take, drop, length-append, length-drop, take-append-drop}
-use lib.Seq.{take_at, drop_at, drop-drop, length-take-le}
-use borrow.Rule.Slice.PartMut.{put_mid}
+use lib.ListN.{length, get_or, take, drop, set, length-append, length-drop, take-append-drop}
+use lib.Seq.{paste, paste-zero, paste-suc, take_all, take_at, drop_at, drop-drop, length-take-le}
+use native.Mathlib.Numerals.{add-one}
 use borrow.Author.Tests.{lt-ltb, le-ltb}
 use Rattle.rules.specs.Der.{length_bytes, element, header}
 use Rattle.reading.proofs.Element as der
@@ -32,10 +32,23 @@ element_length tag c = der.element_length tag c
 
 -- ---- a text
 
--- the buffer with a text in the place of as many bytes
-pub put_whole : (b : List ℕ) (at n : ℕ) (s t : List ℕ) → t ≡ s → n ≡ length s → Put b at s (put_mid at n b t) (at + length s)
-unfolding Put pasted
-put_whole b at n s t e h = (rw (e, h, drop-drop) (simp append_assoc), refl)
+-- the first k bytes of s are put
+unfoldable pub Putting : List ℕ → ℕ → List ℕ → List ℕ → ℕ → Type 0
+Putting b₀ at s b k = b ≡ paste b₀ at s k
+
+module _ (b₀ : List ℕ) (at : ℕ) (s : List ℕ) where
+  pub put_none : Putting b₀ at s b₀ 0
+  unfolding Putting
+  put_none = paste-zero b₀ at s
+
+  module _ (b : List ℕ) (k : ℕ) (inv : Putting b₀ at s b k) where
+    pub put_more : at + k < length b₀ → k < length s → Putting b₀ at s (set b (at + k) (get_or s k 0)) (k + 1)
+    unfolding Putting
+    put_more h l = rw (add-one, inv) (paste-suc b₀ at s k 0 h l)
+
+    pub put_all : k ≡ length s → Put b₀ at s b (at + length s)
+    unfolding Putting Put pasted
+    put_all e = (inv ∙ rw (e, take_all (length s) s (omega arith)), refl)
 
 -- ---- puts side by side
 

@@ -20,6 +20,18 @@ pub fn element_size(n: usize) -> usize
     }
 }
 
+// Puts a text at a place, and gives the place past it. Byte by byte: `copy_from_slice` calls `memmove` of the C library, which nothing else
+// here needs.
+fn put_at(buffer: &mut [u8], at: usize, text: &[u8]) -> usize
+    requires { Fits buffer.old at text.now }
+    ensures { Put buffer.old at text.now buffer.new result }
+{
+    for k in 0..text.len() {
+        buffer[at + k] = text[k];
+    }
+    at + text.len()
+}
+
 // A lent buffer that is written from left to right, and the place to go on at.
 #[derive(Drop)]
 pub struct Out<'a> {
@@ -29,15 +41,12 @@ pub struct Out<'a> {
 
 impl Out<'_> {
     // Puts a text.
-    #[tactic(auto, using(crate::proofs::Laws::put_whole), unfolding(crate::specs::Output::Fits))]
     pub fn put_text(&mut self, text: &[u8])
         requires { Fits self.old.buffer.now self.old.at text.now }
         ensures put { Put self.old.buffer.now self.old.at text.now self.new.buffer.now self.new.at }
         ensures same_buffer { self.new.buffer.ghost_name ≡ self.old.buffer.ghost_name }
     {
-        let end = self.at + text.len();
-        self.buffer[self.at..end].copy_from_slice(text);
-        self.at = end;
+        self.at = put_at(self.buffer, self.at, text);
     }
 
     // Puts the bytes of an element before its content. "Every length is definite and shortest: one byte to 127; 81 and a byte from 128 to

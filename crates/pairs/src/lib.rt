@@ -13,7 +13,7 @@ ghost use Rattle.pairs.specs.Pairs.{witness_at, found_for, found_between, held_b
 
 use der::element_end;
 use filter::{TABLE_SIZE, may_match, note};
-use presented::{Identifier, entry_text, first_set, names_start, set_at, shown};
+use presented::{Identifier, first_set, names_start, set_at, shown, text_for};
 use records::{Reference, reference_at};
 use rules::{Kind, Place, RECORD_SIZE, Witness};
 
@@ -124,7 +124,7 @@ fn first_between(
             let mut j: usize = 0;
             while at < end {
                 let next = element_end(san, at, end);
-                if let Some(text) = entry_text(san, at, next, r.kind)
+                if let Some(text) = text_for(san, at, next, r.kind)
                     && text_matches(&r, &san[text..next])
                 {
                     found = Some(witness(i, j, shown(at, text, next), false));

@@ -8,9 +8,14 @@ use native.Mathlib.Omega.{arith}
 use lib.ListN.{length}
 use lib.Dec.{eqb}
 use Rattle.std.specs.Prelude as std
-use Rattle.std.specs.Prelude.{Some, None}
+use Rattle.std.specs.Prelude.{Result, Ok, Err, Some, None}
 use Rattle.octets.proofs.Cases.{by_cases}
+use borrow.Author.Tests.{eqb-true}
 use Rattle.rules.specs.Bytes.{any, same}
+use Rattle.rules.specs.Numbers.{kind_of, kind_number}
+use Rattle.rules.specs.declared.Kind.{Kind}
+use Rattle.rules.specs.declared.Kind.TheVariants.{Dns, Srv, Uri, Cn}
+use Rattle.rules.specs.declared.UnknownKind.{UnknownKind}
 use Rattle.rules.specs.San.{GeneralName, plain, other, srv_oid}
 use Rattle.rules.specs.Matching.{tagged_text, srv_text, entry_text, blocks_cn, if_some}
 use Rattle.reading.specs.Reader.{is_some}
@@ -43,6 +48,31 @@ unfolding entry_text
 text_uri s at end r e = e
 
 -- ---- whether it keeps CN references from counting
+
+-- ---- by the number of a kind
+
+number_is : (n : ℕ) (kind : Kind) → kind_of n ≡ Ok kind → kind_number kind ≡ n
+number_is n kind e =
+    by_cases (eqb n 1) (λ a. let f : ◌≡◌ {A = Result Kind UnknownKind} (Ok Dns) (Ok kind) = rw a at e in let k : Dns ≡ kind = cc in rw (← k, eqb-true n 1 a))
+    (λ a. by_cases (eqb n 2) (λ b. let f : ◌≡◌ {A = Result Kind UnknownKind} (Ok Srv) (Ok kind) = rw (a, b) at e in let k : Srv ≡ kind = cc in rw (← k, eqb-true n 2 b))
+    (λ b. by_cases (eqb n 3) (λ c. let f : ◌≡◌ {A = Result Kind UnknownKind} (Ok Uri) (Ok kind) = rw (a, b, c) at e in let k : Uri ≡ kind = cc in rw (← k, eqb-true n 3 c))
+    (λ c. by_cases (eqb n 4) (λ d. let f : ◌≡◌ {A = Result Kind UnknownKind} (Ok Cn) (Ok kind) = rw (a, b, c, d) at e in let k : Cn ≡ kind = cc in rw (← k, eqb-true n 4 d))
+    (λ d. let f : ◌≡◌ {A = Result Kind UnknownKind} (Err (record { 0 = n })) (Ok kind) = rw (a, b, c, d) at e in let z : ◌≡◌ {A = ℕ} 0 1 = cc in absurd (omega arith)))))
+
+pub text_of_kind : (s : List ℕ) (at end n : ℕ) (o : Result Kind UnknownKind) → o ≡ kind_of n → (kind : Kind) → o ≡ Ok kind
+    → (r : std.Option ℕ) → r ≡ text_place (entry_text (kind_number kind)) s at end → r ≡ text_place (entry_text n) s at end
+text_of_kind s at end n o o_is kind e r r_is = r_is ∙ ap (λ m. text_place (entry_text m) s at end) (number_is n kind (sym o_is ∙ e))
+
+pub text_of_no_kind : (s : List ℕ) (at end n : ℕ) → is_some (whole_at s at end) ≡ true → (o : Result Kind UnknownKind) → o ≡ kind_of n → (why : UnknownKind) → o ≡ Err why
+    → None ≡ text_place (entry_text n) s at end
+unfolding entry_text text_place place_text
+text_of_no_kind s at end n valid o o_is why e =
+    some_of (whole_at s at end) valid λ m p.
+    let k : kind_of n ≡ Err why = sym o_is ∙ e in
+    by_cases (eqb n 1) (λ a. let f : ◌≡◌ {A = Result Kind UnknownKind} (Ok Dns) (Err why) = rw a at k in let z : ◌≡◌ {A = ℕ} 0 1 = cc in absurd (omega arith))
+    (λ a. by_cases (eqb n 2) (λ b. let f : ◌≡◌ {A = Result Kind UnknownKind} (Ok Srv) (Err why) = rw (a, b) at k in let z : ◌≡◌ {A = ℕ} 0 1 = cc in absurd (omega arith))
+    (λ b. by_cases (eqb n 3) (λ c. let f : ◌≡◌ {A = Result Kind UnknownKind} (Ok Uri) (Err why) = rw (a, b, c) at k in let z : ◌≡◌ {A = ℕ} 0 1 = cc in absurd (omega arith))
+    (λ c. rw (p, a, b, c))))
 
 -- a name blocks the CN just where it presents a text to references of some kind
 blocks_is : (m : GeneralName) → blocks_cn m ≡ is_some (entry_text 1 m) || is_some (entry_text 3 m) || is_some (entry_text 2 m)

@@ -159,7 +159,7 @@ pub fn names_start(s: &[u8]) -> usize
 // Where the text starts that the SAN entry from `at` to `end` presents to references of a kind. "A reference matches only its own kind."
 // It is written into the loop that holds names against a reference, which is faster than a call for each name.
 #[inline(always)]
-pub fn entry_text(san: &[u8], at: usize, end: usize, kind: Kind) -> Option<usize>
+pub fn text_for(san: &[u8], at: usize, end: usize, kind: Kind) -> Option<usize>
     requires at_bound { at + 2 ≤ end }
     requires end_in_bounds { end ≤ length san.now }
     requires end_value { is_some (whole_at san.now at end) ≡ true }
@@ -173,6 +173,20 @@ pub fn entry_text(san: &[u8], at: usize, end: usize, kind: Kind) -> Option<usize
     }
 }
 
+// The same by the number of the kind in a record; another number is no kind's, and nothing is presented to it.
+#[tactic(auto, using(crate::proofs::Entries::text_of_kind, crate::proofs::Entries::text_of_no_kind))]
+pub fn entry_text(san: &[u8], at: usize, end: usize, kind: u8) -> Option<usize>
+    requires at_bound { at + 2 ≤ end }
+    requires end_in_bounds { end ≤ length san.now }
+    requires end_value { is_some (whole_at san.now at end) ≡ true }
+    ensures { result ≡ text_place (entry_text kind) san.now at end }
+{
+    let Ok(kind) = Kind::try_from(kind) else {
+        return None;
+    };
+    text_for(san, at, end, kind)
+}
+
 // Whether an entry of the SAN keeps CN references from counting: it is presented to references of some kind, "readable as a name or not".
 #[tactic(auto, using(crate::proofs::Laws::blocking))]
 fn blocks(san: &[u8], at: usize, end: usize) -> bool
@@ -181,9 +195,9 @@ fn blocks(san: &[u8], at: usize, end: usize) -> bool
     requires end_value { is_some (whole_at san.now at end) ≡ true }
     ensures { result ≡ if_some (whole_at san.now at end) blocks_cn }
 {
-    entry_text(san, at, end, Kind::Dns).is_some()
-        || entry_text(san, at, end, Kind::Uri).is_some()
-        || entry_text(san, at, end, Kind::Srv).is_some()
+    text_for(san, at, end, Kind::Dns).is_some()
+        || text_for(san, at, end, Kind::Uri).is_some()
+        || text_for(san, at, end, Kind::Srv).is_some()
 }
 
 // Whether any does.

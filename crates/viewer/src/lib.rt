@@ -36,7 +36,7 @@ pub struct Stepped<'a> {
 pub fn opening(der: &[u8], which: usize) -> usize
     ensures { result ≡ opening_on which der.now }
 {
-    match opened(der, which.into()) {
+    match opened(der, which) {
         Ok(_) => rules::ACCEPTED,
         Err(refusal) => refusal.into(),
     }
@@ -47,7 +47,7 @@ pub fn opening(der: &[u8], which: usize) -> usize
 pub fn view_at(der: &[u8], which: usize, at: usize) -> View
     ensures { result ≡ view_on which der.now at }
 {
-    let Ok(mut names) = opened(der, which.into()) else {
+    let Ok(mut names) = opened(der, which) else {
         return View { row: None, at };
     };
     match names.rows.find(|row| at <= row.start) {

@@ -4,16 +4,16 @@ use Rattle.listing.proofs.list.Goals as goal
 
 pub fill-requires : goal.fill-requires
 fill-requires c =
-    let plan = rw c.into.ensures at (sym c.planned.ensures ∙ c.in-Ok.is) in
+    let plan = sym c.planned.ensures ∙ c.in-Ok.is in
     (list_fits c.args.which c.args.bytes c.args.table.now _ plan).rows
 
 pub returns-in-Ok : goal.returns-in-Ok
 returns-in-Ok c =
-    let plan = rw c.into.ensures at (sym c.planned.ensures ∙ c.in-Ok.is) in
+    let plan = sym c.planned.ensures ∙ c.in-Ok.is in
     let names = list_fits c.args.which c.args.bytes c.args.table.now _ plan in
     (names.listing, c.fill.ensures ∙ names.filled)
 
 pub returns-in-Err : goal.returns-in-Err
 returns-in-Err c =
-    let plan = rw c.into.ensures at (sym c.planned.ensures ∙ c.in-Err.is) in
-    rw c.into-in-Err.ensures (list_refused c.args.which c.args.bytes c.args.table.now _ plan)
+    let plan = sym c.planned.ensures ∙ c.in-Err.is in
+    rw c.into.ensures (list_refused c.args.which c.args.bytes c.args.table.now _ plan)

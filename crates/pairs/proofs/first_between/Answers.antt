@@ -14,20 +14,20 @@ loop-at-init c =
 
 pub slice_bounds-text_matches-count : goal.slice_bounds-text_matches-count
 slice_bounds-text_matches-count c =
-    name_text_lem _ _ _ _ _ _ _ _ _ _ _ _ c.loop-at.invariant.1 c.loop-at-test.true _ c.element_end-next.ensures _ c.entry_text.ensures _ c.in-Some.is
+    name_text_lem _ _ _ _ _ _ _ _ _ _ _ _ c.loop-at.invariant.1 c.loop-at-test.true _ c.element_end-next.ensures _ c.text_for.ensures _ c.in-Some.is
 
 pub slice_bounds-text_matches-start : goal.slice_bounds-text_matches-start
 slice_bounds-text_matches-start c =
     let room =
-    name_text_lem _ _ _ _ _ _ _ _ _ _ _ _ c.loop-at.invariant.1 c.loop-at-test.true _ c.element_end-next.ensures _ c.entry_text.ensures _ c.in-Some.is in
+    name_text_lem _ _ _ _ _ _ _ _ _ _ _ _ c.loop-at.invariant.1 c.loop-at-test.true _ c.element_end-next.ensures _ c.text_for.ensures _ c.in-Some.is in
     search rules
 
 pub shown-requires : goal.shown-requires
 shown-requires c = record {
   at_le_next =
-      name_start _ _ _ _ _ _ _ _ _ _ _ _ c.loop-at.invariant.1 c.loop-at-test.true _ c.element_end-next.ensures _ c.entry_text.ensures _ c.in-Some.is;
+      name_start _ _ _ _ _ _ _ _ _ _ _ _ c.loop-at.invariant.1 c.loop-at-test.true _ c.element_end-next.ensures _ c.text_for.ensures _ c.in-Some.is;
   text_le_next =
-      name_text_lem _ _ _ _ _ _ _ _ _ _ _ _ c.loop-at.invariant.1 c.loop-at-test.true _ c.element_end-next.ensures _ c.entry_text.ensures _ c.in-Some.is;
+      name_text_lem _ _ _ _ _ _ _ _ _ _ _ _ c.loop-at.invariant.1 c.loop-at-test.true _ c.element_end-next.ensures _ c.text_for.ensures _ c.in-Some.is;
 }
 
 pub loop-at-preserved : goal.loop-at-preserved
@@ -36,7 +36,7 @@ loop-at-preserved c =
       | in_default-2-via-in-None-1 w ↦ (c.loop-at.invariant.0, search (rules, name_silent))
       | in_default-2-via-in-Some+else-text_matches w ↦ (
         c.loop-at.invariant.0,
-        name_miss _ _ _ _ _ _ _ _ _ _ _ _ c.loop-at.invariant.1 c.loop-at-test.true _ c.element_end-next.ensures _ c.entry_text.ensures _ w.in-Some.is
+        name_miss _ _ _ _ _ _ _ _ _ _ _ _ c.loop-at.invariant.1 c.loop-at-test.true _ c.element_end-next.ensures _ c.text_for.ensures _ w.in-Some.is
             w.text_matches.result w.text_matches.ensures w.if-text_matches.false,
       )
     ]
@@ -59,9 +59,9 @@ pairs-preserved c =
 pub returns-then-text_matches : goal.returns-then-text_matches
 returns-then-text_matches c = record {
   value =
-      name_hit _ _ _ _ _ _ _ _ _ _ _ _ c.loop-at.invariant.1 c.loop-at-test.true _ c.element_end-next.ensures _ c.entry_text.ensures _ c.in-Some.is
+      name_hit _ _ _ _ _ _ _ _ _ _ _ _ c.loop-at.invariant.1 c.loop-at-test.true _ c.element_end-next.ensures _ c.text_for.ensures _ c.in-Some.is
       c.text_matches.result c.text_matches.ensures c.if-text_matches.true c.shown.result c.shown.ensures c.witness.result c.witness.ensures;
   held_fits =
-      name_fits _ _ _ _ _ _ _ _ _ _ _ _ c.loop-at.invariant.1 c.loop-at-test.true _ c.element_end-next.ensures _ c.entry_text.ensures _ c.in-Some.is
+      name_fits _ _ _ _ _ _ _ _ _ _ _ _ c.loop-at.invariant.1 c.loop-at-test.true _ c.element_end-next.ensures _ c.text_for.ensures _ c.in-Some.is
       c.text_matches.result c.text_matches.ensures c.if-text_matches.true c.shown.result c.shown.ensures c.witness.result c.witness.ensures;
 }

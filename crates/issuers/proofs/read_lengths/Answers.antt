@@ -1,6 +1,6 @@
 use Rattle.std.proofs.Common.{arith, ap, ◌∙◌, ◌≡◌, ◌/◌, length, length-append, length-set}
 use Rattle.issuers.proofs.Laws.{pairs_next, pairs_end, c_read}
-use Rattle.issuers.proofs.lengths_from_c.Goals as goal
+use Rattle.issuers.proofs.read_lengths.Goals as goal
 
 pub loop-i-preserved : goal.loop-i-preserved
 loop-i-preserved c =
