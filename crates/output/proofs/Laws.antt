@@ -7,6 +7,7 @@ use native.Mathlib.Omega.{arith}
 use lib.ListN.{length, get_or, take, drop, set, length-append, length-drop, take-append-drop}
 use lib.Seq.{paste, paste-zero, paste-suc, take_all, take_at, drop_at, drop-drop, length-take-le}
 use native.Mathlib.Numerals.{add-one}
+use borrow.Rule.Slice.PartMut.{put_mid}
 use borrow.Author.Tests.{lt-ltb, le-ltb}
 use Rattle.rules.specs.Der.{length_bytes, element, header}
 use Rattle.reading.proofs.Element as der
@@ -31,6 +32,11 @@ unfolding header element_size
 element_length tag c = der.element_length tag c
 
 -- ---- a text
+
+-- the buffer with a text in the place of as many bytes
+pub put_whole : (b : List ℕ) (at n : ℕ) (s t : List ℕ) → t ≡ s → n ≡ length s → Put b at s (put_mid at n b t) (at + length s)
+unfolding Put pasted
+put_whole b at n s t e h = (rw (e, h, drop-drop) (simp append_assoc), refl)
 
 -- the first k bytes of s are put
 unfoldable pub Putting : List ℕ → ℕ → List ℕ → List ℕ → ℕ → Type 0
