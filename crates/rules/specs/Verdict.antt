@@ -2,7 +2,7 @@
 use Rattle.std.specs.Prelude.{ℕ, ◌+◌, ◌-◌, Bool, true, false, cond, ◌||◌, List, [], length, eqb}
 use Rattle.std.proofs.Math.Option.{Option, none, some, get_or}
 use Rattle.rules.specs.Bytes.{part}
-use Rattle.rules.specs.Numbers.{match, mismatch, constraints_broken, answer_of, cn_kind}
+use Rattle.rules.specs.Numbers.{match, mismatch, constraints_broken, san_unreadable, subject_unreadable, constraints_unreadable, records_unreadable, input_too_long, cn_kind}
 use Rattle.rules.specs.Records.{Reference}
 use Rattle.rules.specs.Der.{Member}
 use Rattle.rules.specs.San.{GeneralName}
@@ -14,7 +14,6 @@ use Rattle.rules.specs.declared.Witness.{Witness}
 use Rattle.rules.specs.declared.Verdict.{Verdict}
 use Rattle.rules.specs.declared.VerdictNumbers.{VerdictNumbers}
 use Rattle.rules.specs.declared.Breach.{Breach}
-use Rattle.rules.specs.declared.Refusal.TheVariants.{InputTooLong, RecordsUnreadable, SanUnreadable, SubjectUnreadable, ConstraintsUnreadable}
 use Rattle.rules.specs.declared.Outcome.{Outcome}
 use Rattle.rules.specs.declared.Outcome.TheVariants.{Refused, Broken, Matched, Mismatched}
 
@@ -71,11 +70,11 @@ judged references san subject constraints =
 -- "Order for a verdict: 7 for any of the four inputs, then 6, 3, 4, 5, 2, then 0 or 1." The constraints are those of all issuers
 unfoldable pub outcome_of : Seen Reference → Seen GeneralName → Seen (Member Attribute) → Seen (List (Member GeneralName)) → Outcome
 outcome_of references san subject constraints =
-    cond (is_long references || is_long san || is_long subject || is_long constraints) (Refused InputTooLong)
-    (cond (is_unreadable references) (Refused RecordsUnreadable)
-    (cond (is_unreadable san) (Refused SanUnreadable)
-    (cond (is_unreadable subject) (Refused SubjectUnreadable)
-    (cond (is_unreadable constraints) (Refused ConstraintsUnreadable)
+    cond (is_long references || is_long san || is_long subject || is_long constraints) (Refused input_too_long)
+    (cond (is_unreadable references) (Refused records_unreadable)
+    (cond (is_unreadable san) (Refused san_unreadable)
+    (cond (is_unreadable subject) (Refused subject_unreadable)
+    (cond (is_unreadable constraints) (Refused constraints_unreadable)
     (judged (list_of references) (list_of san) (list_of subject) (list_of constraints))))))
 
 -- ---- the six numbers
@@ -89,7 +88,7 @@ numbers answer reference presented start size issuer =
 -- the table of answers: "zeros", "presented index of the first that does; the rest zero", "the witnessing pair, and its
 -- element's place"
 unfoldable pub numbers_of : Outcome → Verdict
-numbers_of (Refused refusal) = numbers (answer_of refusal) 0 0 0 0 0
+numbers_of (Refused answer) = numbers answer 0 0 0 0 0
 numbers_of (Broken b) = numbers constraints_broken 0 b.presented 0 0 b.issuer
 numbers_of (Matched w) = numbers match w.reference w.presented w.element.start w.element.length 0
 numbers_of Mismatched = numbers mismatch 0 0 0 0 0
@@ -101,7 +100,7 @@ verdict_of references san subject constraints = numbers_of (outcome_of reference
 
 -- where the text lies in its string; zeros on any answer but 0
 unfoldable pub witness_part : Outcome → Place
-witness_part (Refused refusal) = record { start = 0; length = 0 }
+witness_part (Refused answer) = record { start = 0; length = 0 }
 witness_part (Broken b) = record { start = 0; length = 0 }
 witness_part (Matched w) = w.text
 witness_part Mismatched = record { start = 0; length = 0 }
@@ -125,7 +124,7 @@ all_numbers o = with_place (numbers_of o) (witness_part o)
 
 -- "On any answer but 0 that part is empty"
 unfoldable pub witness_text : List ℕ → List ℕ → Outcome → List ℕ
-witness_text san subject (Refused refusal) = []
+witness_text san subject (Refused answer) = []
 witness_text san subject (Broken b) = []
 witness_text san subject (Matched w) = part (cond w.subject subject san) w.text.start w.text.length
 witness_text san subject Mismatched = []
@@ -136,7 +135,7 @@ past p n = (p.0, n + p.1)
 
 -- ".. at the start of the SAN": where the part lies, by where the SAN and the subject lie
 unfoldable pub witness_place : ℕ × ℕ → ℕ × ℕ → Outcome → ℕ × ℕ
-witness_place san subject (Refused refusal) = san
+witness_place san subject (Refused answer) = san
 witness_place san subject (Broken b) = san
 witness_place san subject (Matched w) = past (cond w.subject subject san) w.text.start
 witness_place san subject Mismatched = san

@@ -272,7 +272,7 @@ impl From<Refusal> for usize {
 #[derive(Clone, Copy)]
 pub enum Outcome {
     // Answers 7, 6, 3, 4 and 5: an input is too long or unreadable.
-    Refused(Refusal),
+    Refused(usize),
     // Answer 2: the first breach of the constraints.
     Broken(Breach),
     // Answer 0.
@@ -297,8 +297,8 @@ impl From<Outcome> for Verdict {
     #[tactic(auto, unfolding(crate::specs::Verdict::numbers_of))]
     fn from(outcome: Outcome) -> Verdict {
         match outcome {
-            Outcome::Refused(refusal) => Verdict {
-                answer: refusal.into(),
+            Outcome::Refused(answer) => Verdict {
+                answer,
                 ..NO_NUMBERS
             },
             Outcome::Broken(breach) => Verdict {

@@ -15,7 +15,7 @@ use Rattle.std.proofs.lemmas.Iterator.{YieldsList}
 use Rattle.std.proofs.lemmas.Iterator.Consumers.{YieldsList-from_first}
 use Rattle.issuers.specs.declared.cut.Strings.{Strings}
 use Rattle.rules.specs.Bytes.{part, some?, all, any, cut}
-use Rattle.rules.specs.Numbers.{san_limit, subject_limit, constraints_limit, records_limit}
+use Rattle.rules.specs.Numbers.{san_limit, subject_limit, constraints_limit, records_limit, answer_of}
 use Rattle.rules.specs.Records.{good_records, references_of}
 use Rattle.rules.specs.Seen.{lengths_fit, strings_of}
 use Rattle.rules.specs.Matching.{Pair, first_pair, first_breach}
@@ -191,14 +191,22 @@ small_witness_of R S J sizes (Some v) f w e =
       text_fits = f.text_fits;
     })
 
+-- every refusal's number is small
+pub refusal_small : (refusal : Refusal) → answer_of refusal ≤ 7
+refusal_small InputTooLong = omega arith
+refusal_small RecordsUnreadable = omega arith
+refusal_small SanUnreadable = omega arith
+refusal_small SubjectUnreadable = omega arith
+refusal_small ConstraintsUnreadable = omega arith
+
 module _ (R S J C L : List ℕ) (r : Result (Unit {0}) Refusal) (r_is : r ≡ first_refusal R S J C L) where
   module _ (refusal : Refusal) (e : r ≡ Err refusal) where
-    pub out_refused : Refused refusal ≡ whole R S J C L
-    out_refused = refused_is R S J C L r r_is refusal e
+    pub out_refused : (answer : ℕ) → answer ≡ answer_of refusal → Refused answer ≡ whole R S J C L
+    out_refused answer f = rw f (refused_is R S J C L r r_is refusal e)
 
-    pub refused_small : Small S J (Refused refusal)
+    pub refused_small : (answer : ℕ) → answer ≡ answer_of refusal → Small S J (Refused answer)
     unfolding Small
-    refused_small = tt
+    refused_small answer f = let h = refusal_small refusal in omega (arith, f, h)
 
   module _ (u : Unit {0}) (ok : r ≡ Ok u) where
     read : AllRead R S J C L
@@ -303,7 +311,7 @@ module _ (o : Outcome) (S J : List ℕ) where
   unfolding Small
   small_witness q w e = rw e at q
 
-  pub shown_refused : (n : Refusal) → o ≡ Refused n → [] ≡ witness_text S J o
+  pub shown_refused : (n : ℕ) → o ≡ Refused n → [] ≡ witness_text S J o
   unfolding witness_text
   shown_refused n e = rw e
 
@@ -319,7 +327,7 @@ module _ (o : Outcome) (S J : List ℕ) where
   shown_matched w e t f = f ∙ rw e
 
 module _ (o : Outcome) (p q : ℕ × ℕ) where
-  pub at_refused : (n : Refusal) → o ≡ Refused n → p ≡ witness_place p q o
+  pub at_refused : (n : ℕ) → o ≡ Refused n → p ≡ witness_place p q o
   unfolding witness_place
   at_refused n e = rw e
 

@@ -10,7 +10,7 @@ use lib.Dec.{ltb}
 use borrow.Author.Tests.{ltb-false}
 use Rattle.rules.proofs.Cases.{by_cases}
 use Rattle.rules.specs.Bytes.{any}
-use Rattle.rules.specs.Numbers.{san_limit, subject_limit, constraints_limit, records_limit}
+use Rattle.rules.specs.Numbers.{san_limit, subject_limit, constraints_limit, records_limit, answer_of}
 use Rattle.rules.specs.Records.{good_records, references_of}
 use Rattle.rules.specs.Seen.{together, lengths_fit, strings_by, seen_records, san_input, subject_input, constraints_input}
 use Rattle.rules.specs.Verdict.{is_long, is_unreadable, list_of, judged, outcome_of}
@@ -146,7 +146,7 @@ module _ (R S J C L : List ℕ) where
   -- the outcome, by the refusal that comes first
   abbrev By : Result (Unit {0}) Refusal → Type 0
   By (Ok u) = AllRead × (whole ≡ of_names)
-  By (Err refusal) = Refused refusal ≡ whole
+  By (Err refusal) = Refused (answer_of refusal) ≡ whole
 
   by : By (first_refusal R S J C L)
   unfolding first_refusal outcome_on outcome_of
@@ -165,7 +165,7 @@ module _ (R S J C L : List ℕ) where
       )
 
   module _ (r : Result (Unit {0}) Refusal) (r_is : r ≡ first_refusal R S J C L) where
-    pub refused_is : (refusal : Refusal) → r ≡ Err refusal → Refused refusal ≡ whole
+    pub refused_is : (refusal : Refusal) → r ≡ Err refusal → Refused (answer_of refusal) ≡ whole
     refused_is refusal e = rw (sym r_is ∙ e) at by
 
     module _ (u : Unit {0}) (e : r ≡ Ok u) where

@@ -1,10 +1,9 @@
 -- What the code of the verdict decides step by step: the refusals in their order, and how large the numbers of an outcome are.
 use Rattle.std.specs.Prelude.{ℕ, ◌+◌, ◌≤◌, ◌≡◌, Bool, true, cond, not, ◌||◌, List, length, T, ltb, Result, Ok, Err}
-use Rattle.std.proofs.Math.Option.{some}
 use Rattle.std.proofs.Math.Path.{ap}
 use Rattle.std.proofs.Common.{◌∙◌, arith}
 use Rattle.rules.specs.Bytes.{all, any}
-use Rattle.rules.specs.Numbers.{san_limit, subject_limit, constraints_limit, records_limit, answer_of}
+use Rattle.rules.specs.Numbers.{san_limit, subject_limit, constraints_limit, records_limit}
 use Rattle.rules.specs.Records.{good_records}
 use Rattle.rules.specs.Seen.{lengths_fit}
 use Rattle.rules.specs.Verdict.{numbers_of, verdict_of, witness_part}
@@ -16,15 +15,10 @@ use Rattle.rules.specs.declared.Refusal.TheVariants.{InputTooLong, RecordsUnread
 use Rattle.rules.specs.declared.Outcome.{Outcome}
 use Rattle.rules.specs.declared.Outcome.TheVariants.{Refused, Broken, Matched, Mismatched}
 use Rattle.reading.specs.Reader.{is_some}
-use Rattle.reading.specs.Calls.{Inputs, inputs, outcome_on, verdict_on, witness_part_on}
-use Rattle.verdict.specs.declared.Inputs as declared
+use Rattle.reading.specs.Calls.{Inputs, outcome_on, verdict_on, witness_part_on}
 use Rattle.reading.specs.Strings.{read_san, read_subject, read_constraints}
 use Rattle.der.specs.Runs.{validated}
 use Rattle.issuers.specs.Strings.{strings_in}
-
--- the inputs that the code is handed, as whole calls take them
-abbrev pub inputs_of : declared.Inputs → Inputs
-inputs_of i = inputs i.san.now i.subject.now i.constraints.now (some i.lengths.now) i.references.now
 
 -- 6/13: "a ninth, or lengths with another sum, is 7, and each keeps its own length limit"
 unfoldable pub constraints_long : List ℕ → ℕ → Bool
@@ -64,7 +58,7 @@ pub record SmallWitness (san subject : List ℕ) (w : Witness) : Type 0 where
   pub text_fits : w.text.start + w.text.length ≤ length (cond w.subject subject san)
 
 unfoldable pub Small : List ℕ → List ℕ → Outcome → Type 0
-Small san subject (Refused refusal) = T true
+Small san subject (Refused n) = n ≤ san_limit
 Small san subject (Broken b) = (b.issuer ≤ san_limit) × (b.presented ≤ san_limit)
 Small san subject (Matched w) = SmallWitness san subject w
 Small san subject Mismatched = T true
@@ -81,19 +75,11 @@ pub record SmallPlace (p : Place) : Type 0 where
   pub start_small : p.start ≤ san_limit
   pub length_small : p.length ≤ san_limit
 
--- every refusal's number is small
-answer_is_small : (refusal : Refusal) → answer_of refusal ≤ san_limit
-answer_is_small InputTooLong = omega arith
-answer_is_small RecordsUnreadable = omega arith
-answer_is_small SanUnreadable = omega arith
-answer_is_small SubjectUnreadable = omega arith
-answer_is_small ConstraintsUnreadable = omega arith
-
 -- the numbers of a small outcome are small
 numbers_small : (S J : List ℕ) (p : Outcome) → Small S J p → SmallNumbers (numbers_of p)
 unfolding numbers_of Small
-numbers_small S J (Refused refusal) q = record {
-  answer_small = answer_is_small refusal;
+numbers_small S J (Refused n) q = record {
+  answer_small = q;
   reference_small = omega arith;
   presented_small = omega arith;
   start_small = omega arith;
@@ -127,7 +113,7 @@ numbers_small S J Mismatched q = record {
 
 part_small : (S J : List ℕ) (p : Outcome) → Small S J p → SmallPlace (witness_part p)
 unfolding Small witness_part
-part_small S J (Refused refusal) q = record { start_small = omega arith; length_small = omega arith }
+part_small S J (Refused n) q = record { start_small = omega arith; length_small = omega arith }
 part_small S J (Broken b) q = record { start_small = omega arith; length_small = omega arith }
 part_small S J (Matched w) q = record { start_small = omega (arith, q.text_small); length_small = omega (arith, q.text_small) }
 part_small S J Mismatched q = record { start_small = omega arith; length_small = omega arith }

@@ -2,12 +2,13 @@
 #![tactic(auto, using(crate::proofs::Laws::laws))]
 
 ghost use Rattle.std.specs.Prelude.{◌≡◌, true, length};
+ghost use Rattle.std.proofs.Math.Option.{some};
 ghost use Rattle.rules.specs.Seen.{lengths_fit};
 ghost use Rattle.rules.specs.Verdict.{witness_part, witness_text, witness_place};
 ghost use Rattle.reading.specs.Strings.{read_san, read_constraints};
-ghost use Rattle.reading.specs.Calls.{outcome_on, verdict_on, witness_text_on, witness_part_on, witness_place_on};
+ghost use Rattle.reading.specs.Calls.{inputs, outcome_on, verdict_on, witness_text_on, witness_part_on, witness_place_on};
 ghost use Rattle.der.specs.Runs.{validated};
-ghost use Rattle.verdict.specs.Judging.{inputs_of, constraints_long, any_long, subject_read, constraints_read, first_refusal, SmallWitness, Small, SmallNumbers, SmallPlace};
+ghost use Rattle.verdict.specs.Judging.{constraints_long, any_long, subject_read, constraints_read, first_refusal, SmallWitness, Small, SmallNumbers, SmallPlace};
 
 use constrained::first_breach;
 use issuers::{lengths_fit, strings_of};
@@ -107,10 +108,10 @@ fn validate(i: Inputs) -> Result<(), Refusal>
 // How the verdict ends: the refusals, then the constraints, "even if another name would match", then the first pair.
 #[tactic(auto, using(crate::proofs::Laws::outcomes))]
 pub fn outcome(i: Inputs) -> Outcome
-    ensures { (result ≡ outcome_on (inputs_of i.entry)) × Small i.entry.san.now i.entry.subject.now result }
+    ensures { (result ≡ outcome_on (inputs i.entry.san.now i.entry.subject.now i.entry.constraints.now (some i.entry.lengths.now) i.entry.references.now)) × Small i.entry.san.now i.entry.subject.now result }
 {
     if let Err(refusal) = validate(i) {
-        return Outcome::Refused(refusal);
+        return Outcome::Refused(refusal.into());
     }
     if let Some(breach) = first_breach(i.san, i.constraints, i.lengths) {
         return Outcome::Broken(breach);
@@ -123,7 +124,7 @@ pub fn outcome(i: Inputs) -> Outcome
 
 // "A verdict is five numbers: answer, reference index, presented index, start, length", and the issuer's index.
 pub fn verdict(i: Inputs) -> Verdict
-    ensures { (result ≡ verdict_on (inputs_of i.entry)) × SmallNumbers result }
+    ensures { (result ≡ verdict_on (inputs i.entry.san.now i.entry.subject.now i.entry.constraints.now (some i.entry.lengths.now) i.entry.references.now)) × SmallNumbers result }
 {
     outcome(i).into()
 }
@@ -145,7 +146,7 @@ pub fn text_of(o: Outcome) -> Place
 // Where the text of a verdict's witness lies, for callers that cannot be handed a part of a slice.
 #[tactic(auto, using(crate::proofs::Laws::texts))]
 pub fn text_place(i: Inputs) -> Place
-    ensures { (result ≡ witness_part_on (inputs_of i.entry)) × SmallPlace result }
+    ensures { (result ≡ witness_part_on (inputs i.entry.san.now i.entry.subject.now i.entry.constraints.now (some i.entry.lengths.now) i.entry.references.now)) × SmallPlace result }
 {
     text_of(outcome(i))
 }
@@ -183,8 +184,8 @@ fn shown<'a>(san: &'a [u8], subject: &'a [u8], o: Outcome) -> &'a [u8]
 // of the certificate's own bytes."
 #[tactic(auto, using(crate::proofs::Laws::texts))]
 pub fn witness<'a>(i: Inputs<'a, '_>) -> &'a [u8]
-    ensures bytes { result.now ≡ witness_text_on (inputs_of i.entry) }
-    ensures place { result.ref_ptr ≡ witness_place_on (inputs_of i.entry) i.entry.san.ref_ptr i.entry.subject.ref_ptr }
+    ensures bytes { result.now ≡ witness_text_on (inputs i.entry.san.now i.entry.subject.now i.entry.constraints.now (some i.entry.lengths.now) i.entry.references.now) }
+    ensures place { result.ref_ptr ≡ witness_place_on (inputs i.entry.san.now i.entry.subject.now i.entry.constraints.now (some i.entry.lengths.now) i.entry.references.now) i.entry.san.ref_ptr i.entry.subject.ref_ptr }
 {
     shown(i.san, i.subject, outcome(i))
 }
