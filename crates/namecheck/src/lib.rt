@@ -3,7 +3,7 @@
 // Decimals, single spaces, a line feed after each line." It fails closed: where a file is there and cannot be read, it writes no answer.
 #![tactic(auto)]
 
-ghost use Rattle.std.specs.Prelude.{◌≡◌};
+ghost use Rattle.std.specs.Prelude.{◌≡◌, ◌≤◌, length, IfSome};
 ghost use Rattle.std.specs.Io.{ReadsAtMost};
 ghost use Rattle.std.proofs.Math.Option.{some};
 ghost use Rattle.reading.specs.Calls.{inputs, verdict_on};
@@ -94,7 +94,9 @@ fn read(rt: &impl Files, path: &str, buffer: &mut [u8]) -> io::Result<usize>
 }
 
 // What a file holds. Where it cannot be read, standard error says which file that is, and why.
-fn load<'a, R: Files + Eprint>(rt: &R, path: &str, buffer: &'a mut [u8]) -> Option<&'a [u8]> {
+fn load<'a, R: Files + Eprint>(rt: &R, path: &str, buffer: &'a mut [u8]) -> Option<&'a [u8]>
+    ensures { IfSome result (λ bytes. length bytes.now ≤ length buffer.old) }
+{
     match read(rt, path, buffer) {
         Ok(count) => Some(&buffer[..count]),
         Err(error) => {
