@@ -23,11 +23,11 @@ use Rattle.reading.proofs.Element.{element_length, element_complete}
 use Rattle.reading.proofs.Codec.{alone_c}
 use Rattle.reading.proofs.Codecs.{other_c, name_c}
 use Rattle.std.specs.Prelude as std
-use Rattle.std.specs.Prelude.{Result, Ok, Err, Some, None}
+use Rattle.std.specs.Prelude.{Result, Ok, Err, Some, None, unwrap_or}
 use Rattle.der.specs.Places.{found, place_element, element_at, found?}
 use Rattle.der.specs.Reads.{part_is, found_read, part_of_part}
 use Rattle.der.specs.Runs.{start_of}
-use Rattle.entries.specs.Entries.{text_tag_of, text_of, named, place_name, other_at, form_of, whole_at, place_text, text_place}
+use Rattle.entries.specs.Entries.{text_tag_of, text_of, named, place_name, other_at, form_of, whole_at, place_text, text_place, text_start}
 use Rattle.entries.specs.declared.Name.{Name}
 use Rattle.entries.specs.declared.Unreadable.{Unreadable}
 use Rattle.entries.specs.declared.NameForm.{NameForm}
@@ -354,3 +354,12 @@ module _ (s : List ℕ) (at end : ℕ) (h : at + 2 ≤ end) (fits : end ≤ leng
 
     pub form_dns : form ≡ Dns → r ≡ text_place (tagged_text 0x82) s at end → r ≡ text_place (form_of form).text s at end
     form_dns e f = f ∙ rw e
+
+-- its start as a number: where a text's place was found, or else past the end
+pub as_number : (end : ℕ) (r o : std.Option ℕ) → r ≡ o → (x : ℕ) → x ≡ unwrap_or r (end + 1) → x ≡ text_start end o
+unfolding text_start
+as_number end r o r_is x x_is = x_is ∙ rw r_is (go o)
+  where
+    go : (o : std.Option ℕ) → unwrap_or o (end + 1) ≡ text_start end o
+    go None = refl
+    go (Some at) = refl

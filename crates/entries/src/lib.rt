@@ -8,7 +8,7 @@ ghost use Rattle.rules.specs.Matching.{srv_text, tagged_text};
 ghost use Rattle.reading.specs.Reader.{is_some, raw};
 ghost use Rattle.reading.specs.Strings.{read_name};
 ghost use Rattle.rules.specs.Bytes.{same};
-ghost use Rattle.entries.specs.Entries.{other_kind, other_at, name_at, kind_by, attribute_at, subtree_at, good_name_at, good_subtree_name_at, good_subtree_at, form_of, form_by, whole_at, text_place};
+ghost use Rattle.entries.specs.Entries.{other_kind, other_at, name_at, kind_by, attribute_at, subtree_at, good_name_at, good_subtree_name_at, good_subtree_at, form_of, form_by, whole_at, text_place, text_start};
 
 use der::{ElementError, content_start, read_element, tagged, value};
 use dns::dns_restriction;
@@ -176,11 +176,18 @@ pub fn subtree_shape(s: &[u8], tag: u8, start: usize, end: usize) -> Result<Name
     name_shape(s, name.tag, name.start, end)
 }
 
-// "87, 88, A3, A4, A5"
+// "87, 88, A3, A4, A5": an arm for each, of which the compiler makes one test of a bit.
 fn is_sealed_tag(tag: u8) -> bool
     ensures { result ≡ sealed_tag tag }
 {
-    matches!(tag, 0x87 | 0x88 | 0xA3 | 0xA4 | 0xA5)
+    match tag {
+        0x87 => true,
+        0x88 => true,
+        0xA3 => true,
+        0xA4 => true,
+        0xA5 => true,
+        _ => false,
+    }
 }
 
 // "that inner element has tag 16, at least one byte, all below 128"
@@ -203,15 +210,13 @@ fn good_other(s: &[u8], start: usize, end: usize) -> bool
 }
 
 // The rules of a GeneralName that is no otherName: "81, 82, 86: every byte below 128. 87, 88, A3, A4, A5: content not looked into. Tags
-// not named here are unreadable."
+// not named here are unreadable." It is written into the loops that read names, which is faster than a call for each name.
+#[inline(always)]
 fn good_plain(tag: u8, content: &[u8]) -> bool
     requires { tag ≡ 0xA0 → ⊥ }
     ensures { result ≡ is_some (read_name (raw tag content.now)) }
 {
-    match tag {
-        0x81 | 0x82 | 0x86 => ascii(content),
-        _ => is_sealed_tag(tag),
-    }
+    is_sealed_tag(tag) || matches!(tag, 0x81 | 0x82 | 0x86) && ascii(content)
 }
 
 // Whether a GeneralName is readable. Those of a subtree ask `good_plain`, so that the compiler writes this into the one loop that calls it.
@@ -292,8 +297,9 @@ fn other_text(s: &[u8], at: usize, end: usize) -> Option<usize>
 
 // Where the text of an SRVName starts, of the GeneralName that stands from `at` to `end` and has been validated; none where it is another
 // name. Where its length is in short form, so are all lengths in it, and each part has its own place: A0, the length, 06, 8, the OID, A0,
-// the length, the tag, the length, the text.
-pub fn srv_text(s: &[u8], at: usize, end: usize) -> Option<usize>
+// the length, the tag, the length, the text. It is written into the loops that hold names against references or subtrees.
+#[inline(always)]
+pub fn srv_place(s: &[u8], at: usize, end: usize) -> Option<usize>
     requires at_bound { at + 2 ≤ end }
     requires end_in_bounds { end ≤ length s.now }
     requires end_value { is_some (whole_at s.now at end) ≡ true }
@@ -315,7 +321,7 @@ pub fn srv_text(s: &[u8], at: usize, end: usize) -> Option<usize>
 }
 
 // The same of a name whose tag says what it is: 82 a dNSName, 86 a URI.
-pub fn tagged_text(s: &[u8], at: usize, end: usize, tag: u8) -> Option<usize>
+pub fn tagged_place(s: &[u8], at: usize, end: usize, tag: u8) -> Option<usize>
     requires at_bound { at + 2 ≤ end }
     requires end_in_bounds { end ≤ length s.now }
     requires end_value { is_some (whole_at s.now at end) ≡ true }
@@ -336,17 +342,38 @@ pub fn form_text(s: &[u8], at: usize, end: usize, form: NameForm) -> Option<usiz
     ensures { result ≡ text_place (form_of form).text s.now at end }
 {
     match form {
-        NameForm::Srv => srv_text(s, at, end),
-        NameForm::Dns => tagged_text(s, at, end, 0x82),
+        NameForm::Srv => srv_place(s, at, end),
+        NameForm::Dns => tagged_place(s, at, end, 0x82),
     }
 }
 
-// The same by the form's kind in the listing: 9 an SRVName, else a dNSName.
-pub fn name_text(s: &[u8], at: usize, end: usize, kind: usize) -> Option<usize>
+// Where the text of an SRVName starts as a number: past the end where the name is another.
+pub fn srv_text(s: &[u8], at: usize, end: usize) -> usize
     requires at_bound { at + 2 ≤ end }
     requires end_in_bounds { end ≤ length s.now }
     requires end_value { is_some (whole_at s.now at end) ≡ true }
-    ensures { result ≡ text_place (form_of (form_by kind)).text s.now at end }
+    ensures { result ≡ text_start end (text_place srv_text s.now at end) }
 {
-    form_text(s, at, end, NameForm::from(kind))
+    srv_place(s, at, end).unwrap_or(end + 1)
+}
+
+// The same of a name whose tag says what it is.
+pub fn tagged_text(s: &[u8], at: usize, end: usize, tag: u8) -> usize
+    requires at_bound { at + 2 ≤ end }
+    requires end_in_bounds { end ≤ length s.now }
+    requires end_value { is_some (whole_at s.now at end) ≡ true }
+    requires fact { tag ≡ 0xA0 → ⊥ }
+    ensures { result ≡ text_start end (text_place (tagged_text tag) s.now at end) }
+{
+    tagged_place(s, at, end, tag).unwrap_or(end + 1)
+}
+
+// The same of a name of a form, by the form's kind in the listing: 9 an SRVName, else a dNSName.
+pub fn name_text(s: &[u8], at: usize, end: usize, kind: usize) -> usize
+    requires at_bound { at + 2 ≤ end }
+    requires end_in_bounds { end ≤ length s.now }
+    requires end_value { is_some (whole_at s.now at end) ≡ true }
+    ensures { result ≡ text_start end (text_place (form_of (form_by kind)).text s.now at end) }
+{
+    form_text(s, at, end, NameForm::from(kind)).unwrap_or(end + 1)
 }

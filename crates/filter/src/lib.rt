@@ -9,7 +9,7 @@ ghost use Rattle.filter.specs.Keys.{keys, byte_at, word_at, sum_of, key_of, note
 
 use der::{element_end, read_element};
 use dns::begins_wild;
-use entries::tagged_text;
+use entries::tagged_place;
 use octets::Dotted;
 use words::{long, word};
 
@@ -93,7 +93,7 @@ fn note_in(san: &[u8], start: usize, end: usize, table: &mut [u8; TABLE_SIZE])
     let mut at = start;
     while at < end {
         let next = element_end(san, at, end);
-        if let Some(text) = tagged_text(san, at, next, 0x82) {
+        if let Some(text) = tagged_place(san, at, next, 0x82) {
             let k = name_key(&san[text..next]);
             table[k / 8] |= bit(k);
         }
@@ -113,6 +113,7 @@ pub fn note(san: &[u8], table: &mut [u8; TABLE_SIZE])
 }
 
 // Whether a dNSName that is noted may match the domain of a reference.
+#[tactic(auto, using(crate::proofs::Laws::laws, octets::proofs::Place::rest_after))]
 pub fn may_match(table: &[u8; TABLE_SIZE], domain: Dotted<'_>) -> bool
     ensures { result ≡ may_match table.now domain.entry.text.now }
 {

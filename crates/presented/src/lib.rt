@@ -11,11 +11,11 @@ ghost use Rattle.reading.specs.Strings.{read_san, read_attribute, read_set};
 ghost use Rattle.der.specs.Places.{element_at, found?};
 ghost use Rattle.der.specs.Reads.{Read};
 ghost use Rattle.der.specs.Runs.{Run, validated, names_of, content_start};
-ghost use Rattle.entries.specs.Entries.{whole_at, text_place};
+ghost use Rattle.entries.specs.Entries.{whole_at, text_place, text_start};
 ghost use Rattle.presented.specs.Presented.{shown_at, attribute_at, with_cn, sole, set_at, first_set};
 
 use der::{Element, element_end, read_element};
-use entries::{OTHER_CN, TEXT_CN, attribute, srv_text, tagged_text};
+use entries::{OTHER_CN, TEXT_CN, attribute, srv_place, tagged_place};
 use rules::{Kind, Place};
 
 // An identifier: where its DER element lies, of a CN the attribute's SEQUENCE, and where its text lies.
@@ -166,25 +166,26 @@ pub fn text_for(san: &[u8], at: usize, end: usize, kind: Kind) -> Option<usize>
     ensures { result ≡ text_place (entry_text (kind_number kind)) san.now at end }
 {
     match kind {
-        Kind::Dns => tagged_text(san, at, end, 0x82),
-        Kind::Srv => srv_text(san, at, end),
-        Kind::Uri => tagged_text(san, at, end, 0x86),
+        Kind::Dns => tagged_place(san, at, end, 0x82),
+        Kind::Srv => srv_place(san, at, end),
+        Kind::Uri => tagged_place(san, at, end, 0x86),
         Kind::Cn => None,
     }
 }
 
-// The same by the number of the kind in a record; another number is no kind's, and nothing is presented to it.
-#[tactic(auto, using(crate::proofs::Entries::text_of_kind, crate::proofs::Entries::text_of_no_kind))]
-pub fn entry_text(san: &[u8], at: usize, end: usize, kind: u8) -> Option<usize>
+// The same as a number, by the number of the kind in a record: past the end where the entry presents no text. Another number is no kind's,
+// and nothing is presented to it.
+#[tactic(auto, using(entries::proofs::Whole::as_number, crate::proofs::Entries::text_of_kind, crate::proofs::Entries::text_of_no_kind))]
+pub fn entry_text(san: &[u8], at: usize, end: usize, kind: u8) -> usize
     requires at_bound { at + 2 ≤ end }
     requires end_in_bounds { end ≤ length san.now }
     requires end_value { is_some (whole_at san.now at end) ≡ true }
-    ensures { result ≡ text_place (entry_text kind) san.now at end }
+    ensures { result ≡ text_start end (text_place (entry_text kind) san.now at end) }
 {
     let Ok(kind) = Kind::try_from(kind) else {
-        return None;
+        return end + 1;
     };
-    text_for(san, at, end, kind)
+    text_for(san, at, end, kind).unwrap_or(end + 1)
 }
 
 // Whether an entry of the SAN keeps CN references from counting: it is presented to references of some kind, "readable as a name or not".

@@ -18,6 +18,7 @@ fn past_slashes(s: &[u8]) -> Option<&[u8]>
 }
 
 // Whether a byte is "/", "?", "#" or b.
+#[inline(always)]
 #[tactic(auto, unfolding(crate::specs::Parts::stops, rules::specs::Names::authority_end))]
 fn stops(b: u8, x: u8) -> bool
     ensures { result ≡ spec.stops b x }
@@ -25,7 +26,9 @@ fn stops(b: u8, x: u8) -> bool
     matches!(x, b'/' | b'?' | b'#') || x == b
 }
 
-// The index of the first "/", "?", "#" or b, or the length where there is none.
+// The index of the first "/", "?", "#" or b, or the length where there is none. Written into its callers, where b is known, four tests are
+// one test of a bit.
+#[inline(always)]
 fn stop(s: &[u8], b: u8) -> usize
     ensures { (result ≡ length (before (spec.stops b) s.now)) × (result ≤ length s.now) }
 {
