@@ -25,8 +25,13 @@ fn record_bytes(kind: u8, service: &[u8], domain: &[u8]) -> [u8; 320]
     bytes[0] = kind;
     bytes[SERVICE_LENGTH_AT] = service.len() as u8;
     bytes[DOMAIN_LENGTH_AT] = domain.len() as u8;
-    bytes[SERVICE_AT..SERVICE_AT + service.len()].copy_from_slice(service);
-    bytes[DOMAIN_AT..DOMAIN_AT + domain.len()].copy_from_slice(domain);
+    let mut out = Out {
+        buffer: &mut bytes,
+        at: SERVICE_AT,
+    };
+    out.put_text(service);
+    out.at = DOMAIN_AT;
+    out.put_text(domain);
     bytes
 }
 

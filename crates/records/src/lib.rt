@@ -191,7 +191,7 @@ pub fn service_of(references: &[u8], i: usize) -> &[u8]
     requires i_in_bounds { i < length references.now / record_size }
     ensures { result.now ≡ (reference_at references.now i).service }
 {
-    reference_at(references, i).service
+    service_in(nth_record(references, i))
 }
 
 pub fn domain_of(references: &[u8], i: usize) -> &[u8]
@@ -199,5 +199,5 @@ pub fn domain_of(references: &[u8], i: usize) -> &[u8]
     requires i_in_bounds { i < length references.now / record_size }
     ensures { result.now ≡ (reference_at references.now i).domain }
 {
-    reference_at(references, i).domain.text
+    domain_in(nth_record(references, i))
 }
