@@ -6,3 +6,4 @@ pub mod Compare
 pub mod Texts
 pub mod Place
 pub mod Adding
+pub mod Pairs

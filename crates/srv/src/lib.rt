@@ -20,7 +20,7 @@ fn past_underscore(s: &[u8]) -> Option<&[u8]>
 }
 
 // Whether a service, a dot and a domain follow the underscore.
-#[tactic(auto, using(crate::proofs::Prefixed::domain_none), unfolding(crate::specs::Parts::srv_parts))]
+#[tactic(auto, using(crate::proofs::Prefixed::domain_none, octets::proofs::Place::rest_after), unfolding(crate::specs::Parts::srv_parts))]
 fn parts(rest: Dotted<'_>) -> bool
     ensures { result ≡ srv_parts rest.entry.text.now }
 {
@@ -36,7 +36,7 @@ pub fn srv_id(s: &[u8]) -> bool
 }
 
 // "An SRVName here has one of three texts: `_service`, `_service.domain`, `domain`."
-#[tactic(auto, using(crate::proofs::Prefixed::restriction_bare, crate::proofs::Prefixed::restriction_is))]
+#[tactic(auto, using(crate::proofs::Prefixed::restriction_bare, crate::proofs::Prefixed::restriction_is, octets::proofs::Place::rest_after))]
 pub fn restriction(s: &[u8]) -> bool
     ensures { result ≡ rules.restriction s.now }
 {

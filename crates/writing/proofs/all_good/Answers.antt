@@ -1,4 +1,4 @@
-use Rattle.std.proofs.Common.{sym, ◌∙◌, ap}
+use Rattle.std.proofs.Common.{sym, ◌∙◌, ap, arith, ◌≡◌, ◌+◌, length, length-append}
 use Rattle.rules.specs.Bytes.{all}
 use Rattle.writing.specs.Listed.{listed}
 use Rattle.writing.proofs.Walking.{asked_none, per_next, judged_bad, judged_good}
@@ -11,9 +11,14 @@ returns-then-not-good g c =
 
 pub loop-name-preserved : goal.loop-name-preserved
 loop-name-preserved g c =
-    let v = c.loop-name.invariant in (
+    let v = c.loop-name.invariant in
+    let texts = c.loop-name.rest.texts.now in
+    let first = c.in-Some.name.texts.now in
+    let others = c.in-Some.others.texts.now in
+    let cut : length texts ≡ length first + length others = ap length c.in-Some.ensures.2 ∙ length-append first others in (
       per_next g.met.W.Writer.parts c.loop-name.rest c.in-Some.name c.in-Some.others v.0 c.in-Some.ensures,
       judged_good g.met.W.Writer.parts c.loop-name.rest c.in-Some.name c.in-Some.others v.0 c.in-Some.ensures _ c.good.ensures c.if-not-good.false ∙ v.1,
+      omega (arith, cut, v.2),
     )
 
 pub returns : goal.returns
